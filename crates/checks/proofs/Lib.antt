@@ -1,0 +1,5 @@
+pub mod Rows
+pub mod Room
+pub mod FieldLaws
+pub mod Enclosing
+pub mod Kept

@@ -1,0 +1,59 @@
+-- A table that holds its rows, as a test and as facts.
+use Prim.Native.Nat.{ℕ, _*_, _≤_, _<_}
+use mathlib.Core.Path.{_≡_, refl, sym, _∙_}
+use mathlib.Core.Bool.{Bool, true, false, not, _&&_}
+use mathlib.Core.List.{List}
+use native.Mathlib.Omega.{arith}
+use lib.ListN.{length}
+use lib.Dec.{leb}
+use borrow.Author.Tests.{leb-true, le-leb, lt-leb, not-true, not-false}
+use Rattle.kinds.proofs.Below.{true-not-false, both-true, and-false}
+use Rattle.checks.specs.declared.Checked.{Checked}
+use Rattle.checks.specs.declared.Checked.the-variants.{Passed, Refused}
+use Rattle.checks.specs.declared.Fault.the-variants.{NotHeld}
+use Rattle.checks.specs.Held.{Held}
+use Rattle.checks.specs.Checks.{holds, whenHeld}
+
+pub held-facts : (rows : List ℕ) (count : ℕ) → holds rows count ≡ true → Held rows count
+unfolding holds
+held-facts rows count e =
+    let a = both-true (leb 1 count) _ e in
+    let b = both-true (leb count 2000) _ (a .1) in
+    record { some = leb-true 1 count (a .0); few = leb-true count 2000 (b .0); room = leb-true (5 * count) (length rows) (b .1) }
+
+module _ (rows : List ℕ) (count : ℕ) where
+  pub holds-none : count < 1 → false ≡ holds rows count
+  unfolding holds
+  holds-none h = rw (lt-leb 1 count h)
+
+  pub holds-many : 1 ≤ count → 2000 < count → false ≡ holds rows count
+  unfolding holds
+  holds-many l h = rw (le-leb 1 count l, lt-leb count 2000 h)
+
+  pub holds-room : 1 ≤ count → count ≤ 2000 → leb (5 * count) (length rows) ≡ holds rows count
+  unfolding holds
+  holds-room l h = rw (le-leb 1 count l, le-leb count 2000 h)
+
+  -- what a caller of `held` knows
+  module _ (r : Bool) (e : r ≡ holds rows count) where
+    pub held-told : not r ≡ false → Held rows count
+    held-told n = held-facts rows count (sym e ∙ not-false r n)
+
+    pub not-held : (found : Checked) → not r ≡ true → Refused NotHeld 0 ≡ whenHeld rows count found
+    unfolding whenHeld
+    not-held found n = rw (← e, not-true r n)
+
+    pub found-held : (found out : Checked) → not r ≡ false → out ≡ found → out ≡ whenHeld rows count found
+    unfolding whenHeld
+    found-held found out n o = rw (← e, not-false r n) o
+
+-- a check that passed read a table that holds its rows
+pub passed-held : (rows : List ℕ) (count : ℕ) (found : Checked) → whenHeld rows count found ≡ Passed → Held rows count × (found ≡ Passed)
+unfolding whenHeld
+passed-held rows count found = go (holds rows count) refl
+  where
+    go : (b : Bool) → holds rows count ≡ b → whenHeld rows count found ≡ Passed → Held rows count × (found ≡ Passed)
+    go true e p = (held-facts rows count e, rw e at p)
+    go false e p = let q : Refused NotHeld 0 ≡ Passed = rw e at p in absurd (let z : _≡_ {A = ℕ} 0 1 = cc in omega arith)
+
+pub ruleset answers = (holds-none, holds-many, holds-room, held-told, not-held, found-held)

@@ -1,0 +1,5 @@
+pub mod Below
+pub mod Numbers
+pub mod Items
+pub mod Keys
+pub mod Words

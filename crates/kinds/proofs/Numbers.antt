@@ -1,0 +1,171 @@
+-- The numbers of the table say what its entries say: side numbers, classes, items.
+use Prim.Native.Nat.{ℕ, zero, suc, _+_, _*_, _/_, _%_, _≤_, _<_}
+use mathlib.Core.Path.{_≡_, refl, sym, ap, ap₂, _∙_}
+use mathlib.Core.Bool.{Bool, true, false, _&&_, _||_, Bool·beq}
+use mathlib.Core.List.{List, [], _∷_, map}
+use native.Mathlib.Omega.{arith}
+use lib.ListN.{length, getD, List·getD-map}
+use lib.Dec.{eqb, leb, ltb, leb·suc-suc, eqb·suc-zero}
+use borrow.Author.Tests.{ltb-true, ltb-false, lt-ltb, le-ltb, le-leb, lt-leb, eqb-true, eqb-false}
+use Rattle.kinds.specs.declared.Kind.{Kind}
+use Rattle.kinds.specs.Kinds.{Class, absent, path, seg, delay, intra, star-or-list, event, arm, decl, S, E, L, Sides, zero-only, up-to, name-number, Item, kinds, noEntry, entry, classNumber, isKind, inClass, sideFits, takes}
+use Rattle.kinds.specs.Numbers.{sidesNumber, sideBelow, Range, range, bit, itemNumber, itemsNumber, ofFirst, takesFirst, repeatsFirst, numbers}
+use Rattle.kinds.proofs.Below.{true-not-false, and-false, everyBelow, below}
+
+-- the side numbers below a count of one: 0
+below-one : (n : ℕ) → ltb n 1 ≡ eqb n 0
+below-one n = go (eqb n 0) refl
+  where
+    go : (b : Bool) → eqb n 0 ≡ b → ltb n 1 ≡ b
+    go true e = rw (eqb-true n 0 e)
+    go false e = le-ltb n 1 (least n (eqb-false n 0 e))
+      where
+        least : (m : ℕ) → (m ≡ 0 → ⊥) → 1 ≤ m
+        least zero d = absurd (d refl)
+        least (suc m) d = omega arith
+
+-- the count of side numbers, and the side numbers
+pub side-number : (s : Sides) (names side : ℕ) → sideBelow (sidesNumber s) names side ≡ sideFits s names side
+unfolding sideBelow sidesNumber sideFits
+side-number zero-only names side = below-one side
+side-number (up-to n) names side = rw (eqb·suc-zero n) (leb·suc-suc side n)
+side-number name-number names side = refl
+
+-- a class's range in the table holds its kinds and no other
+inRange : Class → ℕ → Bool
+inRange c k = leb (range c .first) k && ltb k (range c .past)
+
+agrees : Class → ℕ → Bool
+agrees c k = Bool·beq (inRange c k) (inClass c k)
+
+tied : (c : Class) → everyBelow (agrees c) 66 ≡ true
+unfolding everyBelow agrees inRange range inClass isKind classNumber entry kinds
+tied absent = refl
+tied path = refl
+tied seg = refl
+tied delay = refl
+tied intra = refl
+tied star-or-list = refl
+tied event = refl
+tied arm = refl
+tied decl = refl
+tied S = refl
+tied E = refl
+tied L = refl
+
+-- two hex digits hold each end of a range, with room for a mark
+pub record Fits (c : Class) : Type 0 where
+  pub low : range c .first < 128
+  pub high : range c .past ≤ 66
+  pub some : 0 < range c .past
+
+pub range-fits : (c : Class) → Fits c
+unfolding range
+range-fits absent = record { low = omega arith; high = omega arith; some = omega arith }
+range-fits path = record { low = omega arith; high = omega arith; some = omega arith }
+range-fits seg = record { low = omega arith; high = omega arith; some = omega arith }
+range-fits delay = record { low = omega arith; high = omega arith; some = omega arith }
+range-fits intra = record { low = omega arith; high = omega arith; some = omega arith }
+range-fits star-or-list = record { low = omega arith; high = omega arith; some = omega arith }
+range-fits event = record { low = omega arith; high = omega arith; some = omega arith }
+range-fits arm = record { low = omega arith; high = omega arith; some = omega arith }
+range-fits decl = record { low = omega arith; high = omega arith; some = omega arith }
+range-fits S = record { low = omega arith; high = omega arith; some = omega arith }
+range-fits E = record { low = omega arith; high = omega arith; some = omega arith }
+range-fits L = record { low = omega arith; high = omega arith; some = omega arith }
+
+same-bool : (a b : Bool) → Bool·beq a b ≡ true → a ≡ b
+same-bool true true e = refl
+same-bool true false e = true-not-false (cc)
+same-bool false true e = true-not-false (cc)
+same-bool false false e = refl
+
+pub in-range : (c : Class) (k : ℕ) → leb (range c .first) k && ltb k (range c .past) ≡ inClass c k
+unfolding inRange agrees inClass isKind
+in-range c k = go (ltb k 66) refl
+  where
+    go : (b : Bool) → ltb k 66 ≡ b → inRange c k ≡ inClass c k
+    go true e = same-bool _ _ (below (agrees c) 66 (tied c) k (ltb-true k 66 e))
+    go false e =
+        rw (e, le-ltb k (range c .past) (omega (arith, ltb-false k 66 e, range-fits c .high)))
+        (and-false (leb (range c .first) k))
+
+-- the kind `none` is 0
+is-absent : (k : ℕ) → eqb k 0 ≡ inClass absent k
+unfolding range
+is-absent k = sym (below-one k) ∙ sym (rw (le-leb 0 k (omega arith))) ∙ in-range absent k
+
+-- the digits of a number whose first item is of a class from a up to b, with the marks p and q, and whose other items are m
+record Digits (n a b m : ℕ) (p q : Bool) : Type 0 where
+  first : n % 128 ≡ a
+  past : n / 256 % 128 ≡ b
+  optional : leb 128 (n % 256) ≡ p
+  repeats : leb 32768 (n % 65536) ≡ q
+  rest : n / 65536 ≡ m
+
+bit-small : (p : Bool) → bit p ≤ 1
+bit-small true = omega arith
+bit-small false = omega arith
+
+digits : (n a b m : ℕ) (p q : Bool) → a < 128 → b ≤ 66 → n ≡ a + 128 * bit p + 256 * (b + 128 * bit q) + 65536 * m → Digits n a b m p q
+digits n a b m p q l h e =
+    let x = bit-small p in
+    let y = bit-small q in
+    record { first = omega arith; past = omega arith; optional = under p (omega arith); repeats = over q (omega arith); rest = omega arith }
+  where
+    under : (p : Bool) → n % 256 ≡ a + 128 * bit p → leb 128 (n % 256) ≡ p
+    under true v = le-leb 128 (n % 256) (omega arith)
+    under false v = lt-leb 128 (n % 256) (omega arith)
+
+    over : (q : Bool) → 256 * (b + 128 * bit q) ≤ n % 65536 × (n % 65536 < 256 * (b + 128 * bit q) + 256) → leb 32768 (n % 65536) ≡ q
+    over true v = le-leb 32768 (n % 65536) (omega arith)
+    over false v = lt-leb 32768 (n % 65536) (omega arith)
+
+first-digits : (i : Item) (items : List Item) → Digits (itemsNumber (i ∷ items)) (range (i .class) .first) (range (i .class) .past) (itemsNumber items) (i .may-be-absent) (i .may-repeat)
+unfolding itemsNumber itemNumber
+first-digits i items =
+    let f = range-fits (i .class) in
+    digits (itemsNumber (i ∷ items)) (range (i .class) .first) (range (i .class) .past) (itemsNumber items) (i .may-be-absent) (i .may-repeat) (f .low) (f .high) refl
+
+-- the first item of a number takes the kinds that the item takes
+pub takes-first : (i : Item) (items : List Item) (k : ℕ) → takesFirst (itemsNumber (i ∷ items)) k ≡ takes i k
+unfolding takesFirst ofFirst takes
+takes-first i items k = let d = first-digits i items in rw (d .first, d .past, d .optional, is-absent, in-range (i .class) k)
+
+-- it may repeat where the item may
+pub repeats-first : (i : Item) (items : List Item) → repeatsFirst (itemsNumber (i ∷ items)) ≡ i .may-repeat
+unfolding repeatsFirst
+repeats-first i items = first-digits i items .repeats
+
+-- the other items
+pub rest-number : (i : Item) (items : List Item) → itemsNumber (i ∷ items) / 65536 ≡ itemsNumber items
+rest-number i items = first-digits i items .rest
+
+-- a number with an item is not 0
+pub some-number : (i : Item) (items : List Item) → 0 < itemsNumber (i ∷ items)
+unfolding itemsNumber itemNumber
+some-number i items = omega (arith, range-fits (i .class) .some)
+
+-- no item takes nothing
+pub takes-none : (k : ℕ) → takesFirst 0 k ≡ false
+unfolding takesFirst ofFirst
+takes-none k = rw (le-ltb k 0 (omega arith), and-false (leb 0 k))
+
+pub repeats-none : repeatsFirst 0 ≡ false
+unfolding repeatsFirst
+repeats-none = refl
+
+-- an element of a list does not depend on what stands for a missing one
+any-default : {A : Type 0} (l : List A) (k : ℕ) (d e : A) → k < length l → getD l k d ≡ getD l k e
+any-default [] k d e h = absurd (omega arith)
+any-default (x ∷ l) zero d e h = refl
+any-default (x ∷ l) (suc k) d e h = any-default l k d e (omega arith)
+
+in-kinds : (k : ℕ) → k ≤ 65 → k < length (map numbers kinds)
+unfolding kinds
+in-kinds k h = omega arith
+
+-- an entry of the code's table holds the numbers of the list's
+pub kind-numbers : (entries : List Kind) (k : ℕ) (d : Kind) → entries ≡ map numbers kinds → k ≤ 65 → getD entries k d ≡ numbers (entry k)
+unfolding entry
+kind-numbers entries k d e h = rw e (any-default (map numbers kinds) k d (numbers noEntry) (in-kinds k h) ∙ List·getD-map numbers kinds k noEntry)

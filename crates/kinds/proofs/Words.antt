@@ -1,0 +1,145 @@
+-- The word lookup: a kind's key is no other byte string's, so the key of a byte string finds its kind, if it has one.
+use Prim.Native.Nat.{ℕ, zero, suc, _+_, _≤_, _<_}
+use mathlib.Core.Path.{_≡_, refl, sym, ap, _∙_}
+use mathlib.Core.Bool.{Bool, true, false, cond, _&&_}
+use mathlib.Core.List.{List, [], _∷_}
+use native.Mathlib.Omega.{arith}
+use lib.ListN.{length, getD}
+use lib.Dec.{eqb, leb, ltb}
+use borrow.Author.Tests.{eqb-true, ltb-true}
+use Rattle.kinds.specs.declared.Found.{Found}
+use Rattle.kinds.specs.declared.Found.the-variants.{Is, Unknown}
+use Rattle.kinds.specs.Kinds.{Entry, kinds, noEntry, entry}
+use Rattle.kinds.specs.Words.{same, placeFrom, kindOf}
+use Rattle.kinds.specs.Numbers.{key, keyOf, letters, isLetter}
+use Rattle.kinds.proofs.Below.{true-not-false, both-true, everyBelow, below}
+use Rattle.kinds.proofs.Keys.{one-word}
+
+abbrev wordOf : ℕ → List ℕ
+wordOf k = entry k .word
+
+-- the computed test of the whole table: each word is found, has a key, and is spelt in few small letters
+
+isAt : ℕ → Found → Bool
+isAt k (Is j) = eqb j k
+isAt k Unknown = false
+
+at-is : (k : ℕ) (f : Found) → isAt k f ≡ true → f ≡ Is k
+unfolding isAt
+at-is k (Is j) e = ap Is (eqb-true j k e)
+at-is k Unknown e = true-not-false (cc)
+
+good : ℕ → Bool
+good k = isAt k (kindOf (wordOf k)) && (ltb 0 (key (wordOf k)) && (leb (length (wordOf k)) 11 && letters (wordOf k)))
+
+all-good : everyBelow good 66 ≡ true
+unfolding everyBelow good isAt kindOf placeFrom entry kinds same letters isLetter key
+all-good = refl
+
+record Good (k : ℕ) : Type 0 where
+  found : kindOf (wordOf k) ≡ Is k
+  some : 0 < key (wordOf k)
+  short : leb (length (wordOf k)) 11 ≡ true
+  spelt : letters (wordOf k) ≡ true
+
+good-at : (k : ℕ) → k < 66 → Good k
+unfolding good
+good-at k h =
+    let a = both-true (isAt k (kindOf (wordOf k))) _ (below good 66 all-good k h) in
+    let b = both-true (ltb 0 (key (wordOf k))) _ (a .1) in
+    let c = both-true (leb (length (wordOf k)) 11) (letters (wordOf k)) (b .1) in
+    record { found = at-is k (kindOf (wordOf k)) (a .0); some = ltb-true 0 (key (wordOf k)) (b .0); short = c .0; spelt = c .1 }
+
+key-word : (k : ℕ) → k < 66 → keyOf (wordOf k) ≡ key (wordOf k)
+unfolding keyOf
+key-word k h = let g = good-at k h in rw (g .short, g .spelt)
+
+-- a byte string with the key of a kind's word is that word
+find-known : (s : List ℕ) (k : ℕ) → k < 66 → key (wordOf k) ≡ keyOf s → Is k ≡ kindOf s
+unfolding keyOf
+find-known s k h e = go (leb (length s) 11) (letters s) refl refl
+  where
+    go : (a b : Bool) → leb (length s) 11 ≡ a → letters s ≡ b → Is k ≡ kindOf s
+    go true true p q =
+        let x : key s ≡ key (wordOf k) = sym (rw (p, q) at e) in
+        let w : s ≡ wordOf k = one-word s (wordOf k) q (good-at k h .spelt) x in
+        rw w (sym (good-at k h .found))
+    go true false p q = let z : key (wordOf k) ≡ 0 = rw (p, q) at e in absurd (omega (arith, good-at k h .some))
+    go false b p q = let z : key (wordOf k) ≡ 0 = rw p at e in absurd (omega (arith, good-at k h .some))
+
+same-is : (a b : List ℕ) → same a b ≡ true → a ≡ b
+unfolding same
+same-is [] [] t = refl
+same-is [] (y ∷ ys) t = true-not-false (cc)
+same-is (x ∷ xs) [] t = true-not-false (cc)
+same-is (x ∷ xs) (y ∷ ys) t =
+    let b = both-true (eqb x y) (same xs ys) t in
+    let e = eqb-true x y (b .0) in
+    let r = same-is xs ys (b .1) in
+    cc
+
+-- what is found stands in the table
+record Hit (w : List ℕ) (es : List Entry) (n j : ℕ) : Type 0 where
+  i : ℕ
+  within : i < length es
+  at : j ≡ n + i
+  word : w ≡ getD es i noEntry .word
+
+hit : (n : ℕ) (w : List ℕ) (es : List Entry) (j : ℕ) → placeFrom n w es ≡ Is j → Hit w es n j
+unfolding placeFrom
+hit n w [] j e = absurd (let z : _≡_ {A = ℕ} 0 1 = cc in omega arith)
+hit n w (x ∷ es) j e = go (same w (x .word)) refl (λ q. hit (suc n) w es j q)
+  where
+    go : (b : Bool) → same w (x .word) ≡ b → (placeFrom (suc n) w es ≡ Is j → Hit w es (suc n) j) → Hit w (x ∷ es) n j
+    go true q more = let f : Is n ≡ Is j = rw q at e in let m : n ≡ j = cc in record { i = 0; within = omega arith; at = omega arith; word = same-is w (x .word) q }
+    go false q more = let h = more (rw q at e) in record { i = suc (h .i); within = omega (arith, h .within); at = omega (arith, h .at); word = h .word }
+
+in-table : (i : ℕ) → i < length kinds → i < 66
+unfolding kinds
+in-table i h = h
+
+-- a kind that is found is a number of the table
+pub found-below : (s : List ℕ) (k : ℕ) → kindOf s ≡ Is k → k < 66
+unfolding kindOf
+found-below s k e = let h = hit 0 s kinds k e in omega (arith, in-table (h .i) (h .within), h .at)
+
+-- a byte string whose key is no kind's is no kind's word
+find-unknown : (s : List ℕ) → ((k : ℕ) → k < 66 → keyOf s ≡ key (wordOf k) → ⊥) → Unknown ≡ kindOf s
+unfolding kindOf entry
+find-unknown s differs = go (kindOf s) refl
+  where
+    go : (f : Found) → kindOf s ≡ f → Unknown ≡ f
+    go Unknown q = refl
+    go (Is j) q =
+        let h = hit 0 s kinds j q in
+        let b = in-table (h .i) (h .within) in
+        let w : s ≡ wordOf (h .i) = h .word in
+        absurd (differs (h .i) b (ap keyOf w ∙ key-word (h .i) b))
+
+-- an arm of the match: the key is that of the kind k
+pub arm : (s : List ℕ) (k v : ℕ) → ltb k 66 ≡ true → v ≡ keyOf s → v ≡ key (entry k .word) → Is k ≡ kindOf s
+arm s k v h e q = find-known s k (ltb-true k 66 h) (sym q ∙ e)
+
+-- what the last arm knows: the key differs from that of each entry, beside what was known before
+unfoldable pub Differs : ℕ → Type 0 → List Entry → Type 0
+Differs v known [] = known
+Differs v known (x ∷ es) = Differs v (known × (v ≡ key (x .word) → ⊥)) es
+
+differs-known : (v : ℕ) (known : Type 0) (es : List Entry) → Differs v known es → known
+unfolding Differs
+differs-known v known [] d = d
+differs-known v known (x ∷ es) d = differs-known v (known × (v ≡ key (x .word) → ⊥)) es d .0
+
+differs-at : (v : ℕ) (known : Type 0) (es : List Entry) → Differs v known es → (k : ℕ) → k < length es → v ≡ key (getD es k noEntry .word) → ⊥
+unfolding Differs
+differs-at v known [] d k h = absurd (omega arith)
+differs-at v known (x ∷ es) d zero h = differs-known v (known × (v ≡ key (x .word) → ⊥)) es d .1
+differs-at v known (x ∷ es) d (suc k) h = differs-at v (known × (v ≡ key (x .word) → ⊥)) es d k (omega arith)
+
+in-kinds : (k : ℕ) → k < 66 → k < length kinds
+unfolding kinds
+in-kinds k h = h
+
+pub rest : (s : List ℕ) (v : ℕ) → v ≡ keyOf s → Differs v (Unit {0}) kinds → Unknown ≡ kindOf s
+unfolding entry
+rest s v e d = find-unknown s (λ k h q. differs-at v (Unit {0}) kinds d k (in-kinds k h) (e ∙ q))

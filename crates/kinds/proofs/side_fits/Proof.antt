@@ -1,0 +1,12 @@
+use borrow.Author.Tests.{eq-eqb, ne-eqb}
+use Rattle.kinds.specs.Numbers.{sideBelow}
+use Rattle.kinds.proofs.side_fits.Statement.{statement}
+use Rattle.kinds.proofs.side_fits.Tie as tie
+
+pub side-fits-spec : {M : Type 1} → statement M
+unfolding sideBelow
+side-fits-spec =
+    tie.close
+    (tie.spec
+    (λ c. rw (eq-eqb _ _ (c .if1 .taken)))
+    (λ c. rw (ne-eqb _ _ (c .before .if1 .left))))

@@ -1,0 +1,83 @@
+-- The numbers that the code keeps for an entry of the table, and how it reads them. Nothing here is document 01's: that
+-- these numbers say what the list says is proved in proofs/Numbers and proofs/Words.
+use Prim.Native.Nat.{ℕ, suc, _+_, _-_, _*_, _/_, _%_}
+use mathlib.Core.Bool.{Bool, true, false, cond, _&&_, _||_}
+use mathlib.Core.List.{List, [], _∷_}
+use lib.ListN.{length}
+use lib.Dec.{eqb, leb, ltb}
+use Rattle.kinds.specs.declared.Kind.{Kind}
+use Rattle.kinds.specs.Kinds.{Class, absent, path, seg, delay, intra, star-or-list, event, arm, decl, S, E, L, Sides, zero-only, up-to, name-number, Item, Entry}
+
+-- how many side numbers there are; 0 stands for as many as there are names
+unfoldable pub sidesNumber : Sides → ℕ
+sidesNumber zero-only = 1
+sidesNumber (up-to n) = suc n
+sidesNumber name-number = 0
+
+unfoldable pub sideBelow : ℕ → ℕ → ℕ → Bool
+sideBelow sides names side = cond (eqb sides 0) (ltb side names) (ltb side sides)
+
+-- the kinds of a class stand together in the table: the first one, and the number past the last
+pub record Range : Type 0 where
+  pub first : ℕ
+  pub past : ℕ
+
+abbrev pub from-to : ℕ → ℕ → Range
+from-to a b = record { first = a; past = b }
+
+unfoldable pub range : Class → Range
+range absent = from-to 0 1
+range path = from-to 1 2
+range seg = from-to 2 3
+range delay = from-to 3 4
+range intra = from-to 4 5
+range star-or-list = from-to 5 7
+range event = from-to 7 8
+range arm = from-to 8 10
+range decl = from-to 10 11
+range S = from-to 11 40
+range E = from-to 40 60
+range L = from-to 60 66
+
+abbrev pub bit : Bool → ℕ
+bit true = 1
+bit false = 0
+
+-- four hex digits an item: two for the number past its class, two for the first of its class, with 0x80 added to the
+-- latter if it may be absent and to the former if it may repeat
+unfoldable pub itemNumber : Item → ℕ
+itemNumber i = range (i .class) .first + 128 * bit (i .may-be-absent) + 256 * (range (i .class) .past + 128 * bit (i .may-repeat))
+
+-- the first item lowest
+unfoldable pub itemsNumber : List Item → ℕ
+itemsNumber [] = 0
+itemsNumber (i ∷ items) = itemNumber i + 65536 * itemsNumber items
+
+-- whether a kind is of the class of a number's first item; whether the item takes a child of this kind; whether it may repeat
+unfoldable pub ofFirst : ℕ → ℕ → Bool
+ofFirst items k = leb (items % 128) k && ltb k (items / 256 % 128)
+
+unfoldable pub takesFirst : ℕ → ℕ → Bool
+takesFirst items k = (leb 128 (items % 256) && eqb k 0) || ofFirst items k
+
+unfoldable pub repeatsFirst : ℕ → Bool
+repeatsFirst items = leb 32768 (items % 65536)
+
+unfoldable pub numbers : Entry → Kind
+numbers e = record { sides = sidesNumber (e .sides); children = itemsNumber (e .children) }
+
+-- five bits a letter, the first letter lowest
+unfoldable pub key : List ℕ → ℕ
+key [] = 0
+key (b ∷ w) = (b - 96) + 32 * key w
+
+unfoldable pub isLetter : ℕ → Bool
+isLetter b = leb 97 b && leb b 122
+
+unfoldable pub letters : List ℕ → Bool
+letters [] = true
+letters (b ∷ w) = isLetter b && letters w
+
+-- the key of a byte string that is short enough and of small letters; 0, which is no word's key, for any other
+unfoldable pub keyOf : List ℕ → ℕ
+keyOf w = cond (leb (length w) 11 && letters w) (key w) 0

@@ -1,0 +1,512 @@
+// The table of kinds: what document 01 says of each kind, as numbers, and the kind of a word.
+ghost use mathlib.Core.Path.{_≡_};
+ghost use mathlib.Core.List.{map};
+ghost use Rattle.kinds.specs.Kinds.{kinds as kindList, inClass, S};
+ghost use Rattle.kinds.specs.Words.{kindOf};
+ghost use Rattle.kinds.specs.Numbers.{numbers, sideBelow, ofFirst, takesFirst, repeatsFirst, keyOf};
+
+// What the table holds of a kind: how many side numbers it has, 0 for as many as there are names, and its children, four
+// hex digits an item with the first item lowest (specs/Numbers).
+pub struct Kind {
+    pub sides: usize,
+    pub children: usize,
+}
+
+// The kind of a word.
+pub enum Found {
+    Is(u32),
+    Unknown,
+}
+
+const KINDS: [Kind; 66] = [
+    // none
+    Kind {
+        sides: 1,
+        children: 0,
+    },
+    // path seg*
+    Kind {
+        sides: 1,
+        children: 0x8302,
+    },
+    // seg
+    Kind {
+        sides: 0,
+        children: 0,
+    },
+    // delay E*
+    Kind {
+        sides: 1,
+        children: 0xbc28,
+    },
+    // intra E? (star or list)
+    Kind {
+        sides: 1,
+        children: 0x0705_3ca8,
+    },
+    // star
+    Kind {
+        sides: 1,
+        children: 0,
+    },
+    // list event*
+    Kind {
+        sides: 1,
+        children: 0x8807,
+    },
+    // event E E?
+    Kind {
+        sides: 1,
+        children: 0x3ca8_3c28,
+    },
+    // match S E*
+    Kind {
+        sides: 1,
+        children: 0xbc28_280b,
+    },
+    // default S
+    Kind {
+        sides: 1,
+        children: 0x280b,
+    },
+    // decl E?
+    Kind {
+        sides: 0,
+        children: 0x3ca8,
+    },
+    // blocking delay? intra? L E
+    Kind {
+        sides: 1,
+        children: 0x3c28_423c_0584_0483,
+    },
+    // nonblocking delay? intra? L E
+    Kind {
+        sides: 1,
+        children: 0x3c28_423c_0584_0483,
+    },
+    // if E S S?
+    Kind {
+        sides: 1,
+        children: 0x288b_280b_3c28,
+    },
+    // return E?
+    Kind {
+        sides: 1,
+        children: 0x3ca8,
+    },
+    // case E (match or default)*
+    Kind {
+        sides: 1,
+        children: 0x8a08_3c28,
+    },
+    // for S E S S
+    Kind {
+        sides: 2,
+        children: 0x280b_280b_3c28_280b,
+    },
+    // while E S
+    Kind {
+        sides: 2,
+        children: 0x280b_3c28,
+    },
+    // repeat E S
+    Kind {
+        sides: 2,
+        children: 0x280b_3c28,
+    },
+    // forever S
+    Kind {
+        sides: 2,
+        children: 0x280b,
+    },
+    // block decl* S*
+    Kind {
+        sides: 1,
+        children: 0xa80b_8b0a,
+    },
+    // fork S*
+    Kind {
+        sides: 1,
+        children: 0xa80b,
+    },
+    // systask E*
+    Kind {
+        sides: 1,
+        children: 0xbc28,
+    },
+    // task path E*
+    Kind {
+        sides: 8,
+        children: 0xbc28_0201,
+    },
+    // randstmt
+    Kind {
+        sides: 1,
+        children: 0,
+    },
+    // delayctrl delay S?
+    Kind {
+        sides: 1,
+        children: 0x288b_0403,
+    },
+    // eventctrl (star or list) S?
+    Kind {
+        sides: 1,
+        children: 0x288b_0705,
+    },
+    // trigger
+    Kind {
+        sides: 1,
+        children: 0,
+    },
+    // wait E S?
+    Kind {
+        sides: 1,
+        children: 0x288b_3c28,
+    },
+    // disable path
+    Kind {
+        sides: 1,
+        children: 0x0201,
+    },
+    // waitfork
+    Kind {
+        sides: 1,
+        children: 0,
+    },
+    // concurrent S? S?
+    Kind {
+        sides: 1,
+        children: 0x288b_288b,
+    },
+    // passign
+    Kind {
+        sides: 1,
+        children: 0,
+    },
+    // deassign
+    Kind {
+        sides: 1,
+        children: 0,
+    },
+    // force
+    Kind {
+        sides: 1,
+        children: 0,
+    },
+    // release
+    Kind {
+        sides: 1,
+        children: 0,
+    },
+    // deferred S S
+    Kind {
+        sides: 1,
+        children: 0x280b_280b,
+    },
+    // cover
+    Kind {
+        sides: 1,
+        children: 0,
+    },
+    // null
+    Kind {
+        sides: 1,
+        children: 0,
+    },
+    // error
+    Kind {
+        sides: 1,
+        children: 0,
+    },
+    // lit
+    Kind {
+        sides: 1,
+        children: 0,
+    },
+    // ident path
+    Kind {
+        sides: 1,
+        children: 0x0201,
+    },
+    // unary E
+    Kind {
+        sides: 2,
+        children: 0x3c28,
+    },
+    // binary E E
+    Kind {
+        sides: 3,
+        children: 0x3c28_3c28,
+    },
+    // ternary E E E
+    Kind {
+        sides: 1,
+        children: 0x3c28_3c28_3c28,
+    },
+    // bitsel E E
+    Kind {
+        sides: 1,
+        children: 0x3c28_3c28,
+    },
+    // partsel E E E
+    Kind {
+        sides: 1,
+        children: 0x3c28_3c28_3c28,
+    },
+    // indexed E E E
+    Kind {
+        sides: 1,
+        children: 0x3c28_3c28_3c28,
+    },
+    // mtm E E E
+    Kind {
+        sides: 1,
+        children: 0x3c28_3c28_3c28,
+    },
+    // concat E*
+    Kind {
+        sides: 1,
+        children: 0xbc28,
+    },
+    // syscall E*
+    Kind {
+        sides: 1,
+        children: 0xbc28,
+    },
+    // pattern E*
+    Kind {
+        sides: 1,
+        children: 0xbc28,
+    },
+    // replicate E E*
+    Kind {
+        sides: 1,
+        children: 0xbc28_3c28,
+    },
+    // method E E*
+    Kind {
+        sides: 1,
+        children: 0xbc28_3c28,
+    },
+    // call path E*
+    Kind {
+        sides: 4,
+        children: 0xbc28_0201,
+    },
+    // paren E
+    Kind {
+        sides: 1,
+        children: 0x3c28,
+    },
+    // cast E E?
+    Kind {
+        sides: 1,
+        children: 0x3ca8_3c28,
+    },
+    // namedarg E?
+    Kind {
+        sides: 1,
+        children: 0x3ca8,
+    },
+    // new E E?
+    Kind {
+        sides: 1,
+        children: 0x3ca8_3c28,
+    },
+    // opaque
+    Kind {
+        sides: 1,
+        children: 0,
+    },
+    // lident path
+    Kind {
+        sides: 1,
+        children: 0x0201,
+    },
+    // lbit L E
+    Kind {
+        sides: 1,
+        children: 0x3c28_423c,
+    },
+    // lpart L E E
+    Kind {
+        sides: 1,
+        children: 0x3c28_3c28_423c,
+    },
+    // lidx L E E
+    Kind {
+        sides: 1,
+        children: 0x3c28_3c28_423c,
+    },
+    // lconcat L*
+    Kind {
+        sides: 1,
+        children: 0xc23c,
+    },
+    // lerror
+    Kind {
+        sides: 1,
+        children: 0,
+    },
+];
+
+// The whole table. A caller lays it down once, above its loop over rows.
+pub fn kinds() -> [Kind; 66]
+    ensures { λ r. ⌜ r ≡ map numbers kindList ⌝ }
+{
+    KINDS
+}
+
+// Whether a side number is one of the kind's, with so many names.
+pub fn side_fits(kind: Kind, side: usize, names: usize) -> bool
+    ensures { λ r. ⌜ r ≡ sideBelow (kind .sides) names side ⌝ }
+{
+    if kind.sides == 0 {
+        return side < names;
+    }
+    side < kind.sides
+}
+
+// Whether a kind is a statement.
+pub fn is_statement(kind: usize) -> bool
+    ensures { λ r. ⌜ r ≡ inClass S kind ⌝ }
+{
+    if kind < 11 {
+        return false;
+    }
+    kind < 40
+}
+
+fn of_first(items: usize, kind: usize) -> bool
+    ensures { λ r. ⌜ r ≡ ofFirst items kind ⌝ }
+{
+    if kind < items % 128 {
+        return false;
+    }
+    kind < items / 256 % 128
+}
+
+// Whether the first item of a kind's children takes a child of this kind.
+pub fn takes_first(items: usize, kind: usize) -> bool
+    ensures { λ r. ⌜ r ≡ takesFirst items kind ⌝ }
+{
+    if items % 256 < 128 {
+        return of_first(items, kind);
+    }
+    if kind == 0 {
+        return true;
+    }
+    of_first(items, kind)
+}
+
+// Whether it may stand any number of times.
+pub fn repeats_first(items: usize) -> bool
+    ensures { λ r. ⌜ r ≡ repeatsFirst items ⌝ }
+{
+    32768 <= items % 65536
+}
+
+fn wide(b: u8) -> u64
+    ensures { λ r. ⌜ r ≡ b ⌝ }
+{
+    b as u64
+}
+
+// Five bits a letter, the first letter lowest; 0 where the bytes are no word of at most eleven small letters.
+fn key_of(word: &[u8]) -> u64
+    ensures { λ r. ⌜ r ≡ keyOf (now (word .entry)) ⌝ }
+{
+    if 11 < word.len() {
+        return 0;
+    }
+    let mut i = word.len();
+    let mut key: u64 = 0;
+    while 0 < i {
+        i -= 1;
+        let b = wide(word[i]);
+        if b < 97 {
+            return 0;
+        }
+        if 122 < b {
+            return 0;
+        }
+        key = key * 32 + (b - 96);
+    }
+    key
+}
+
+// The kind of a word: the key tells the words apart, so no word is compared.
+pub fn find_kind(word: &[u8]) -> Found
+    ensures { λ r. ⌜ r ≡ kindOf (now (word .entry)) ⌝ }
+{
+    match key_of(word) {
+        178670 => Found::Is(0), // none
+        282672 => Found::Is(1), // path
+        7347 => Found::Is(2), // seg
+        26259620 => Found::Is(3), // delay
+        1659337 => Found::Is(4), // intra
+        591507 => Found::Is(5), // star
+        675116 => Found::Is(6), // list
+        21436101 => Found::Is(7), // event
+        8507437 => Found::Is(8), // match
+        21899548836 => Found::Is(9), // default
+        396452 => Found::Is(10), // decl
+        255864192386 => Found::Is(11), // blocking
+        8384157856119278 => Found::Is(12), // nonblocking
+        201 => Found::Is(13), // if
+        489345202 => Found::Is(14), // return
+        183331 => Found::Is(15), // case
+        18918 => Found::Is(16), // for
+        5645591 => Found::Is(17), // while
+        672317618 => Found::Is(18), // repeat
+        19518376422 => Found::Is(19), // forever
+        11648386 => Found::Is(20), // block
+        379366 => Found::Is(21), // fork
+        12450418483 => Found::Is(22), // systask
+        379956 => Found::Is(23), // task
+        701844568114 => Found::Is(24), // randstmt
+        13834216583332 => Found::Is(25), // delayctrl
+        13834211759813 => Found::Is(26), // eventctrl
+        19502704212 => Found::Is(27), // trigger
+        664631 => Found::Is(28), // wait
+        5773511972 => Found::Is(29), // disable
+        397794747447 => Found::Is(30), // waitfork
+        719272356723171 => Found::Is(31), // concurrent
+        15277345840 => Found::Is(32), // passign
+        488875066532 => Found::Is(33), // deassign
+        5360102 => Found::Is(34), // force
+        6007468210 => Found::Is(35), // release
+        143430686884 => Found::Is(36), // deferred
+        19061219 => Found::Is(37), // cover
+        406190 => Found::Is(38), // null
+        19384901 => Found::Is(39), // error
+        20780 => Found::Is(40), // lit
+        21435529 => Found::Is(41), // ident
+        26805717 => Found::Is(42), // unary
+        857782562 => Found::Is(43), // binary
+        27449051316 => Found::Is(44), // ternary
+        408539426 => Found::Is(45), // bitsel
+        13073270832 => Found::Is(46), // partsel
+        4488073673 => Found::Is(47), // indexed
+        13965 => Found::Is(48), // mtm
+        672250339 => Found::Is(49), // concat
+        13288722227 => Found::Is(50), // syscall
+        15642284080 => Found::Is(51), // pattern
+        6185937158322 => Found::Is(52), // replicate
+        150229165 => Found::Is(53), // method
+        405539 => Found::Is(54), // call
+        14862384 => Found::Is(55), // paren
+        674851 => Found::Is(56), // cast
+        259883447342 => Found::Is(57), // namedarg
+        23726 => Found::Is(58), // new
+        190350863 => Found::Is(59), // opaque
+        685936940 => Found::Is(60), // lident
+        664652 => Found::Is(61), // lbit
+        21562892 => Found::Is(62), // lpart
+        790828 => Found::Is(63), // lidx
+        21512010860 => Found::Is(64), // lconcat
+        620316844 => Found::Is(65), // lerror
+        _ => Found::Unknown,
+    }
+}
