@@ -3,3 +3,5 @@ pub mod Room
 pub mod FieldLaws
 pub mod Enclosing
 pub mod Kept
+pub mod Nest
+pub mod ChildLaws

@@ -1,13 +1,13 @@
 -- A table that holds its rows, as a test and as facts.
 use Prim.Native.Nat.{ℕ, _*_, _≤_, _<_}
 use mathlib.Core.Path.{_≡_, refl, sym, _∙_}
-use mathlib.Core.Bool.{Bool, true, false, not, _&&_}
+use mathlib.Core.Bool.{Bool, true, false, cond, not, _&&_}
 use mathlib.Core.List.{List}
 use native.Mathlib.Omega.{arith}
 use lib.ListN.{length}
 use lib.Dec.{leb}
 use borrow.Author.Tests.{leb-true, le-leb, lt-leb, not-true, not-false}
-use Rattle.kinds.proofs.Below.{true-not-false, both-true, and-false}
+use Rattle.kinds.proofs.Below.{both-true}
 use Rattle.checks.specs.declared.Checked.{Checked}
 use Rattle.checks.specs.declared.Checked.the-variants.{Passed, Refused}
 use Rattle.checks.specs.declared.Fault.the-variants.{NotHeld}
@@ -47,13 +47,21 @@ module _ (rows : List ℕ) (count : ℕ) where
     unfolding whenHeld
     found-held found out n o = rw (← e, not-false r n) o
 
--- a check that passed read a table that holds its rows
-pub passed-held : (rows : List ℕ) (count : ℕ) (found : Checked) → whenHeld rows count found ≡ Passed → Held rows count × (found ≡ Passed)
-unfolding whenHeld
-passed-held rows count found = go (holds rows count) refl
-  where
-    go : (b : Bool) → holds rows count ≡ b → whenHeld rows count found ≡ Passed → Held rows count × (found ≡ Passed)
-    go true e p = (held-facts rows count e, rw e at p)
-    go false e p = let q : Refused NotHeld 0 ≡ Passed = rw e at p in absurd (let z : _≡_ {A = ℕ} 0 1 = cc in omega arith)
+-- a check that passed read a table that holds its rows, and found nothing
+module _ (rows : List ℕ) (count : ℕ) (found : Checked) (e : whenHeld rows count found ≡ Passed) where
+  pub passed-holds : holds rows count ≡ true
+  unfolding whenHeld
+  passed-holds = go (holds rows count) refl e
+    where
+      go : (b : Bool) → holds rows count ≡ b → cond b found (Refused NotHeld 0) ≡ Passed → b ≡ true
+      go true q p = refl
+      go false q p = absurd (let z : _≡_ {A = ℕ} 0 1 = cc in omega arith)
+
+  pub passed-held : Held rows count
+  passed-held = held-facts rows count passed-holds
+
+  pub passed-found : found ≡ Passed
+  unfolding whenHeld
+  passed-found = rw passed-holds at e
 
 pub ruleset answers = (holds-none, holds-many, holds-room, held-told, not-held, found-held)

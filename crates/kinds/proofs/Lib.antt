@@ -1,5 +1,6 @@
 pub mod Below
 pub mod Numbers
 pub mod Items
+pub mod Steps
 pub mod Keys
 pub mod Words

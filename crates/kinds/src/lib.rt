@@ -3,7 +3,7 @@ ghost use mathlib.Core.Path.{_≡_};
 ghost use mathlib.Core.List.{map};
 ghost use Rattle.kinds.specs.Kinds.{kinds as kindList, inClass, S};
 ghost use Rattle.kinds.specs.Words.{kindOf};
-ghost use Rattle.kinds.specs.Numbers.{numbers, sideBelow, ofFirst, takesFirst, repeatsFirst, keyOf};
+ghost use Rattle.kinds.specs.Numbers.{numbers, sideBelow, ofFirst, takesFirst, repeatsFirst, afterFirst, keyOf};
 
 // What the table holds of a kind: how many side numbers it has, 0 for as many as there are names, and its children, four
 // hex digits an item with the first item lowest (specs/Numbers).
@@ -405,6 +405,16 @@ pub fn repeats_first(items: usize) -> bool
     ensures { λ r. ⌜ r ≡ repeatsFirst items ⌝ }
 {
     32768 <= items % 65536
+}
+
+// The items that are left for the next child, once the first item has taken one.
+pub fn after_first(items: usize) -> usize
+    ensures { λ r. ⌜ r ≡ afterFirst items ⌝ }
+{
+    if repeats_first(items) {
+        return items;
+    }
+    items / 65536
 }
 
 fn wide(b: u8) -> u64

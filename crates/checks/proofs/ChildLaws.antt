@@ -1,0 +1,158 @@
+-- The check of the children in code: a row's children against its items, and the rows one by one.
+use Prim.Native.Nat.{ℕ, zero, suc, _+_, _-_, _/_, _≤_, _<_}
+use mathlib.Core.Path.{_≡_, refl, sym, ap, _∙_}
+use mathlib.Core.Bool.{Bool, true, false, cond, not, _&&_}
+use mathlib.Core.List.{List, [], _∷_, map}
+use native.Mathlib.Omega.{arith}
+use lib.ListN.{length, getD}
+use borrow.Author.Tests.{lt-ltb, le-ltb, not-true, not-false}
+use Rattle.table.specs.Rows.{kindAt, endAt, tree, Nested, RowEnd}
+use Rattle.table.specs.Fold.{fold}
+use Rattle.table.proofs.Ranges.{later}
+use Rattle.table.proofs.Fold.{fold-none, fold-some}
+use Rattle.kinds.specs.declared.Kind.{Kind}
+use Rattle.kinds.specs.Kinds.{Item, kinds, entry, isKind, inClass, S, fits}
+use Rattle.kinds.specs.Numbers.{numbers, itemsNumber, takesFirst, repeatsFirst, afterFirst}
+use Rattle.kinds.proofs.Numbers.{kind-numbers}
+use Rattle.kinds.proofs.Steps.{Left, left-taken, left-skipped, left-refused, left-ended, left-passed, left-missed, after-less, repeats-some}
+use Rattle.checks.specs.declared.Fault.{Fault}
+use Rattle.checks.specs.declared.Fault.the-variants.{WrongChildren}
+use Rattle.checks.specs.declared.Checked.{Checked}
+use Rattle.checks.specs.declared.Checked.the-variants.{Passed, Refused}
+use Rattle.checks.specs.Checks.{whenHeld, orElse, firstFrom, endsOf, kindAlone, kindsOf, childrenFit, childrenAt, rootAt, childrenOf}
+use Rattle.checks.proofs.Nest.{ends-passed}
+use Rattle.checks.proofs.Room.{passed-holds}
+use Rattle.checks.proofs.Rows.{Checking, checking-start, checking-done, checking-stop, checking-next}
+
+-- the kinds of the siblings from a row on: its own, then the others'
+kinds-some : {rows : List ℕ} {from to : ℕ} → Nested rows from to → from < to → kindsOf (tree rows from to) ≡ kindAt rows from ∷ kindsOf (tree rows (endAt rows from) to)
+unfolding kindAlone
+kinds-some g h = fold-some kindAlone g h
+
+-- the loop over the children from `from` up to `end` has come to a child, with these items left
+pub record Fitting (rows : List ℕ) (from end child left : ℕ) (whole : Bool) : Type 0 where
+  pub nested : Nested rows child end
+  pub past : from ≤ child
+  pub items : Left left (kindsOf (tree rows child end)) whole
+
+pub fitting-start : (rows : List ℕ) (i to end items : ℕ)
+    → RowEnd rows i to end
+    → items ≡ itemsNumber (entry (kindAt rows i) .children)
+    → Fitting rows (i + 1) end (i + 1) items (fits (entry (kindAt rows i) .children) (kindsOf (tree rows (i + 1) (endAt rows i))))
+fitting-start rows i to end items e n = record {
+  nested = e .children;
+  past = omega arith;
+  items = record { items = entry (kindAt rows i) .children; number = n; same = rw (e .is) };
+}
+
+module _ (rows : List ℕ) (from end child left : ℕ) (whole : Bool) (w : Fitting rows from end child left whole) where
+  -- no child is left
+  pub fitting-done : (r : Bool) → end ≤ child → ((items : List Item) → left ≡ itemsNumber items → r ≡ fits items []) → r ≡ whole
+  fitting-done r h t =
+      t (w .items .items) (w .items .number)
+      ∙ sym (w .items .same ∙ rw (fold-none kindAlone rows child end h))
+
+  module _ (h : child < end) (k : ℕ) (e : k ≡ kindAt rows child) where
+    here : Left left (k ∷ kindsOf (tree rows (endAt rows child) end)) whole
+    here = rw (kinds-some (w .nested) h, ← e) at (w .items)
+
+    pub fitting-taken : (b : Bool) (next after : ℕ) → b ≡ takesFirst left k → b ≡ true → after ≡ afterFirst left → RowEnd rows child end next → Fitting rows from end next after whole
+    fitting-taken b next after t y a n = record {
+      nested = n .others;
+      past = omega (arith, w .past, n .after);
+      items = rw (a, n .is) (left-taken here (sym t ∙ y));
+    }
+
+    module _ (b r : Bool) (t : b ≡ takesFirst left k) (f : b ≡ false) (q : r ≡ repeatsFirst left) where
+      pub fitting-refused : not r ≡ true → false ≡ whole
+      fitting-refused n = left-refused here (sym t ∙ f) (sym q ∙ not-true r n)
+
+      pub fitting-skipped : not r ≡ false → Fitting rows from end child (left / 65536) whole
+      fitting-skipped n = record {
+        nested = w .nested;
+        past = w .past;
+        items = rw (kinds-some (w .nested) h, ← e) (left-skipped here (sym t ∙ f) (sym q ∙ not-false r n));
+      }
+
+-- the children and the items left become fewer
+pub taken-falls : (rows : List ℕ) (child end next left after : ℕ) → RowEnd rows child end next → after ≡ afterFirst left → (end - next) + after < (end - child) + left
+taken-falls rows child end next left after e a = omega (arith, e .after, e .within, after-less left)
+
+pub skipped-falls : (child end left : ℕ) (r : Bool) → r ≡ repeatsFirst left → not r ≡ false → (end - child) + left / 65536 < (end - child) + left
+skipped-falls child end left r q n = omega (arith, repeats-some left (sym q ∙ not-false r n))
+
+pub ruleset fitting = (fitting-start, fitting-done, fitting-taken, fitting-refused, fitting-skipped, taken-falls, skipped-falls)
+
+-- the items left when no child is
+pub record Ending (items left : ℕ) : Type 0 where
+  pub all : (full : List Item) → items ≡ itemsNumber full → Left left [] (fits full [])
+
+pub ending-start : (items : ℕ) → Ending items items
+ending-start items = record { all = λ full e. record { items = full; number = e; same = refl } }
+
+module _ (items left : ℕ) (w : Ending items left) where
+  pub ending-done : left ≤ 0 → (full : List Item) → items ≡ itemsNumber full → true ≡ fits full []
+  ending-done h full e = left-ended (w .all full e) h
+
+  module _ (r : Bool) (q : r ≡ repeatsFirst left) where
+    pub ending-missed : 0 < left → not r ≡ true → (full : List Item) → items ≡ itemsNumber full → false ≡ fits full []
+    ending-missed h n full e = left-missed (w .all full e) h (sym q ∙ not-true r n)
+
+    pub ending-next : not r ≡ false → Ending items (left / 65536)
+    ending-next n = record { all = λ full e. left-passed (w .all full e) (sym q ∙ not-false r n) }
+
+pub ruleset ending = (ending-start, ending-done, ending-missed, ending-next)
+
+-- the loop over the rows
+module _ (rows : List ℕ) (count i k : ℕ) (w : Checking (childrenAt rows) count i) (h : i < count) (e : k ≡ kindAt rows i) where
+  pub children-unknown : 65 < k → Refused WrongChildren i ≡ firstFrom (childrenAt rows) count 0
+  unfolding childrenAt childrenFit isKind
+  children-unknown u = checking-stop w h WrongChildren i (rw (← e, le-ltb k 66 (omega arith)))
+
+  module _ (r : Bool) (u : k ≤ 65) (q : r ≡ fits (entry (kindAt rows i) .children) (kindsOf (tree rows (i + 1) (endAt rows i)))) where
+    told : childrenAt rows i ≡ cond r Passed (Refused WrongChildren i)
+    unfolding childrenAt childrenFit isKind
+    told = rw (lt-ltb (kindAt rows i) 66 (omega arith), ← q)
+
+    pub children-wrong : not r ≡ true → Refused WrongChildren i ≡ firstFrom (childrenAt rows) count 0
+    children-wrong n = checking-stop w h WrongChildren i (told ∙ rw (not-true r n))
+
+    pub children-next : not r ≡ false → Checking (childrenAt rows) count (i + 1)
+    children-next n = checking-next w h (told ∙ rw (not-false r n))
+
+-- the row come to nests with the rest; the code's table has its items
+pub row-nested : (rows : List ℕ) (count i : ℕ) → Nested rows 0 count → i < count → Nested rows i count
+row-nested rows count i g h = later g i (omega arith) (omega arith)
+
+pub items-of : (rows : List ℕ) (i k : ℕ) (entries : List Kind) (d : Kind) → k ≡ kindAt rows i → k ≤ 65 → entries ≡ map numbers kinds → getD entries k d .children ≡ itemsNumber (entry (kindAt rows i) .children)
+unfolding numbers
+items-of rows i k entries d e u t = rw (kind-numbers entries k d t u, e)
+
+pub ruleset answers = (checking-start, checking-done, children-unknown, children-wrong, children-next, row-nested, items-of)
+
+-- the ends, then row 0, then each row's children
+module _ (rows : List ℕ) (count : ℕ) (r : Checked) (e : r ≡ endsOf rows count) where
+  pub ends-refused : (fault : Fault) (row : ℕ) → r ≡ Refused fault row → r ≡ orElse (endsOf rows count) (childrenOf rows count)
+  ends-refused fault row f = rw (← e, f)
+
+  module _ (p : r ≡ Passed) where
+    pub children-nest : Nested rows 0 count
+    children-nest = ends-passed rows count (sym e ∙ p) .nested
+
+    pub row-held : 4 < length rows
+    row-held = let h = ends-passed rows count (sym e ∙ p) .held in omega (arith, h .some, h .room)
+
+    found : orElse (endsOf rows count) (childrenOf rows count) ≡ orElse (rootAt rows) (firstFrom (childrenAt rows) count 0)
+    unfolding whenHeld
+    found = rw (← e, p, passed-holds rows count _ (sym e ∙ p))
+
+    module _ (k : ℕ) (b : Bool) (z : k ≡ kindAt rows 0) (q : b ≡ inClass S k) where
+      pub root-wrong : not b ≡ true → Refused WrongChildren 0 ≡ orElse (endsOf rows count) (childrenOf rows count)
+      unfolding rootAt
+      root-wrong n = sym (found ∙ rw (← z, ← q, not-true b n))
+
+      pub root-right : (out : Checked) → not b ≡ false → out ≡ firstFrom (childrenAt rows) count 0 → out ≡ orElse (endsOf rows count) (childrenOf rows count)
+      unfolding rootAt
+      root-right out n o = o ∙ sym (found ∙ rw (← z, ← q, not-false b n))
+
+pub ruleset whole = (ends-refused, children-nest, row-held, root-wrong, root-right)

@@ -1,0 +1,23 @@
+use borrow.Author.Needs.{needs}
+use Rattle.checks.proofs.ChildLaws.{Ending, ending}
+use Rattle.checks.proofs.all_repeat.Statement.{statement}
+use Rattle.checks.proofs.all_repeat.Tie as tie
+
+abbrev Inv-loop : tie.InvT-loop
+Inv-loop items left₀ left = Ending items left
+
+abbrev μ-loop : tie.MeasureT-loop
+μ-loop items left₀ left = left
+
+pub all-repeat-spec : {M : Type 1} → statement M
+all-repeat-spec =
+    tie.close
+    (tie.spec
+    Inv-loop
+    μ-loop
+    (λ c. search ending)
+    (λ c κs. search needs)
+    (λ c. search ending)
+    (λ c. search needs)
+    (λ c. search ending)
+    (λ c. search ending))

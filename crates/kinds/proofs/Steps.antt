@@ -1,0 +1,114 @@
+-- Children against the number of a kind's items, as code meets them: one child, and the first item of what is left.
+use Prim.Native.Nat.{ℕ, _/_, _%_, _≤_, _<_}
+use mathlib.Core.Path.{_≡_, refl, sym, ap, _∙_}
+use mathlib.Core.Bool.{Bool, true, false, cond}
+use mathlib.Core.List.{List, [], _∷_}
+use native.Mathlib.Omega.{arith}
+use borrow.Author.Tests.{leb-true}
+use Rattle.kinds.specs.Kinds.{Item, takes, fits}
+use Rattle.kinds.specs.Numbers.{itemsNumber, takesFirst, repeatsFirst, afterFirst}
+use Rattle.kinds.proofs.Below.{true-not-false}
+use Rattle.kinds.proofs.Numbers.{takes-first, repeats-first, rest-number, some-number, takes-none, repeats-none}
+use Rattle.kinds.proofs.Items.{allRepeat, fits-none, fits-once, fits-again, fits-skip, fits-not}
+
+-- the items of a number, against which children of these kinds fit where the test says
+pub record Left (left : ℕ) (kinds : List ℕ) (whole : Bool) : Type 0 where
+  pub items : List Item
+  pub number : left ≡ itemsNumber items
+  pub same : whole ≡ fits items kinds
+
+-- a first item's tests, by the item
+module _ (left : ℕ) (i : Item) (items : List Item) (e : left ≡ itemsNumber (i ∷ items)) where
+  takes-is : (k : ℕ) (b : Bool) → takesFirst left k ≡ b → takes i k ≡ b
+  takes-is k b t = sym (takes-first i items k) ∙ (rw e at t)
+
+  repeats-is : repeatsFirst left ≡ i .may-repeat
+  repeats-is = rw e (repeats-first i items)
+
+  rest-is : left / 65536 ≡ itemsNumber items
+  rest-is = rw e (rest-number i items)
+
+-- no item is left: nothing is taken, nothing repeats
+module _ {A : Type 0} (left : ℕ) (e : left ≡ 0) where
+  takes-never : (k : ℕ) → takesFirst left k ≡ true → A
+  takes-never k t = true-not-false (sym t ∙ rw e (takes-none k))
+
+  repeats-never : repeatsFirst left ≡ true → A
+  repeats-never t = true-not-false (sym t ∙ rw e repeats-none)
+
+module _ (left k : ℕ) (ks : List ℕ) (whole : Bool) where
+  taken : (items : List Item) → left ≡ itemsNumber items → whole ≡ fits items (k ∷ ks) → takesFirst left k ≡ true → Left (afterFirst left) ks whole
+  unfolding afterFirst itemsNumber
+  taken [] e s t = takes-never left e k t
+  taken (i ∷ items) e s t = go (i .may-repeat) refl
+    where
+      go : (b : Bool) → i .may-repeat ≡ b → Left (cond (repeatsFirst left) left (left / 65536)) ks whole
+      go true q = record { items = i ∷ items; number = rw (repeats-is left i items e ∙ q) e; same = s ∙ fits-again i items k ks (takes-is left i items e k true t) q }
+      go false q = record { items = items; number = rw (repeats-is left i items e ∙ q) (rest-is left i items e); same = s ∙ fits-once i items k ks (takes-is left i items e k true t) q }
+
+  skipped : (items : List Item) → left ≡ itemsNumber items → whole ≡ fits items (k ∷ ks) → takesFirst left k ≡ false → repeatsFirst left ≡ true → Left (left / 65536) (k ∷ ks) whole
+  unfolding itemsNumber
+  skipped [] e s t r = repeats-never left e r
+  skipped (i ∷ items) e s t r = record { items = items; number = rest-is left i items e; same = s ∙ fits-skip i items k ks (takes-is left i items e k false t) (sym (repeats-is left i items e) ∙ r) }
+
+  refused : (items : List Item) → left ≡ itemsNumber items → whole ≡ fits items (k ∷ ks) → takesFirst left k ≡ false → repeatsFirst left ≡ false → false ≡ whole
+  unfolding fits
+  refused [] e s t r = sym s
+  refused (i ∷ items) e s t r = sym (s ∙ fits-not i items k ks (takes-is left i items e k false t) (sym (repeats-is left i items e) ∙ r))
+
+module _ {left k : ℕ} {ks : List ℕ} {whole : Bool} (w : Left left (k ∷ ks) whole) where
+  -- the first item takes the child
+  pub left-taken : takesFirst left k ≡ true → Left (afterFirst left) ks whole
+  left-taken t = taken left k ks whole (w .items) (w .number) (w .same) t
+
+  -- it does not, and the child is for the next item
+  pub left-skipped : takesFirst left k ≡ false → repeatsFirst left ≡ true → Left (left / 65536) (k ∷ ks) whole
+  left-skipped t r = skipped left k ks whole (w .items) (w .number) (w .same) t r
+
+  -- it does not, and it must
+  pub left-refused : takesFirst left k ≡ false → repeatsFirst left ≡ false → false ≡ whole
+  left-refused t r = refused left k ks whole (w .items) (w .number) (w .same) t r
+
+-- no child is left
+module _ (left : ℕ) (whole : Bool) where
+  ended : (items : List Item) → left ≡ itemsNumber items → whole ≡ fits items [] → left ≤ 0 → true ≡ whole
+  unfolding fits
+  ended [] e s h = sym s
+  ended (i ∷ items) e s h = absurd (omega (arith, some-number i items))
+
+  passed : (items : List Item) → left ≡ itemsNumber items → whole ≡ fits items [] → repeatsFirst left ≡ true → Left (left / 65536) [] whole
+  unfolding allRepeat itemsNumber
+  passed [] e s r = repeats-never left e r
+  passed (i ∷ items) e s r =
+      let q : i .may-repeat ≡ true = sym (repeats-is left i items e) ∙ r in
+      record { items = items; number = rest-is left i items e; same = s ∙ fits-none (i ∷ items) ∙ rw q (sym (fits-none items)) }
+
+  missed : (items : List Item) → left ≡ itemsNumber items → whole ≡ fits items [] → 0 < left → repeatsFirst left ≡ false → false ≡ whole
+  unfolding allRepeat itemsNumber
+  missed [] e s h r = absurd (omega arith)
+  missed (i ∷ items) e s h r =
+      let q : i .may-repeat ≡ false = sym (repeats-is left i items e) ∙ r in
+      sym (s ∙ fits-none (i ∷ items) ∙ rw q)
+
+module _ {left : ℕ} {whole : Bool} (w : Left left [] whole) where
+  pub left-ended : left ≤ 0 → true ≡ whole
+  left-ended h = ended left whole (w .items) (w .number) (w .same) h
+
+  pub left-passed : repeatsFirst left ≡ true → Left (left / 65536) [] whole
+  left-passed r = passed left whole (w .items) (w .number) (w .same) r
+
+  pub left-missed : 0 < left → repeatsFirst left ≡ false → false ≡ whole
+  left-missed h r = missed left whole (w .items) (w .number) (w .same) h r
+
+-- measures: what is left after a child is no more; what repeats is something
+pub after-less : (left : ℕ) → afterFirst left ≤ left
+unfolding afterFirst
+after-less left = go (repeatsFirst left)
+  where
+    go : (b : Bool) → cond b left (left / 65536) ≤ left
+    go true = omega arith
+    go false = omega arith
+
+pub repeats-some : (left : ℕ) → repeatsFirst left ≡ true → 0 < left
+unfolding repeatsFirst
+repeats-some left r = omega (arith, leb-true 32768 (left % 65536) r)

@@ -1,0 +1,14 @@
+use mathlib.Core.Path.{sym}
+use borrow.Author.Needs.{needs}
+use Rattle.kinds.specs.Numbers.{afterFirst}
+use Rattle.kinds.proofs.after_first.Statement.{statement}
+use Rattle.kinds.proofs.after_first.Tie as tie
+
+pub after-first-spec : {M : Type 1} → statement M
+unfolding afterFirst
+after-first-spec =
+    tie.close
+    (tie.spec
+    (λ c κs. search needs)
+    (λ c. rw (← c .before .repeats-first .ensures, c .if1 .taken))
+    (λ c. rw (← c .before .repeats-first .ensures, c .if1 .left)))
