@@ -12,9 +12,9 @@ use Rattle.table.proofs.Ranges.{later}
 use Rattle.table.proofs.Fold.{fold-none, fold-some}
 use Rattle.kinds.specs.declared.Kind.{Kind}
 use Rattle.kinds.specs.Kinds.{Item, kinds, entry, isKind, inClass, S, fits}
-use Rattle.kinds.specs.Numbers.{numbers, itemsNumber, takesFirst, repeatsFirst, afterFirst}
+use Rattle.kinds.specs.Numbers.{numbers, itemsNumber, takesFirst, repeatsFirst, restFirst, afterFirst}
 use Rattle.kinds.proofs.Numbers.{kind-numbers}
-use Rattle.kinds.proofs.Steps.{Left, left-taken, left-skipped, left-refused, left-ended, left-passed, left-missed, after-less, repeats-some}
+use Rattle.kinds.proofs.Steps.{Left, left-taken, left-skipped, left-refused, left-ended, left-passed, left-missed, after-less, rest-less, rest-falls}
 use Rattle.checks.specs.declared.Fault.{Fault}
 use Rattle.checks.specs.declared.Fault.the-variants.{WrongChildren}
 use Rattle.checks.specs.declared.Checked.{Checked}
@@ -29,57 +29,44 @@ kinds-some : {rows : List ℕ} {from to : ℕ} → Nested rows from to → from 
 unfolding kindAlone
 kinds-some g h = fold-some kindAlone g h
 
--- the loop over the children from `from` up to `end` has come to a child, with these items left
-pub record Fitting (rows : List ℕ) (from end child left : ℕ) (whole : Bool) : Type 0 where
+-- the loop over the children up to `end` has come to a child, with these items left
+pub record Fitting (rows : List ℕ) (end child left : ℕ) (whole : Bool) : Type 0 where
   pub nested : Nested rows child end
-  pub past : from ≤ child
   pub items : Left left (kindsOf (tree rows child end)) whole
 
 pub fitting-start : (rows : List ℕ) (i to end items : ℕ)
     → RowEnd rows i to end
     → items ≡ itemsNumber (entry (kindAt rows i) .children)
-    → Fitting rows (i + 1) end (i + 1) items (fits (entry (kindAt rows i) .children) (kindsOf (tree rows (i + 1) (endAt rows i))))
+    → Fitting rows end (i + 1) items (fits (entry (kindAt rows i) .children) (kindsOf (tree rows (i + 1) (endAt rows i))))
 fitting-start rows i to end items e n = record {
   nested = e .children;
-  past = omega arith;
   items = record { items = entry (kindAt rows i) .children; number = n; same = rw (e .is) };
 }
 
-module _ (rows : List ℕ) (from end child left : ℕ) (whole : Bool) (w : Fitting rows from end child left whole) where
-  -- no child is left
-  pub fitting-done : (r : Bool) → end ≤ child → ((items : List Item) → left ≡ itemsNumber items → r ≡ fits items []) → r ≡ whole
-  fitting-done r h t =
-      t (w .items .items) (w .items .number)
-      ∙ sym (w .items .same ∙ rw (fold-none kindAlone rows child end h))
+-- no child is left
+pub fitting-done : (rows : List ℕ) (end child left : ℕ) (whole r : Bool) → Fitting rows end child left whole → end ≤ child → ((items : List Item) → left ≡ itemsNumber items → r ≡ fits items []) → r ≡ whole
+fitting-done rows end child left whole r w h t = t (w .items .items) (w .items .number) ∙ sym (w .items .same ∙ rw (fold-none kindAlone rows child end h))
 
-  module _ (h : child < end) (k : ℕ) (e : k ≡ kindAt rows child) where
-    here : Left left (k ∷ kindsOf (tree rows (endAt rows child) end)) whole
-    here = rw (kinds-some (w .nested) h, ← e) at (w .items)
+module _ {rows : List ℕ} {end child left k : ℕ} {whole b : Bool} (w : Fitting rows end child left whole) (h : child < end) (e : k ≡ kindAt rows child) (t : b ≡ takesFirst left k) where
+  here : Left left (k ∷ kindsOf (tree rows (endAt rows child) end)) whole
+  here = rw (kinds-some (w .nested) h, ← e) at (w .items)
 
-    pub fitting-taken : (b : Bool) (next after : ℕ) → b ≡ takesFirst left k → b ≡ true → after ≡ afterFirst left → RowEnd rows child end next → Fitting rows from end next after whole
-    fitting-taken b next after t y a n = record {
-      nested = n .others;
-      past = omega (arith, w .past, n .after);
-      items = rw (a, n .is) (left-taken here (sym t ∙ y));
-    }
+  pub fitting-taken : {next after : ℕ} → b ≡ true → after ≡ afterFirst left → RowEnd rows child end next → Fitting rows end next after whole
+  fitting-taken y a n = record { nested = n .others; items = rw (a, n .is) (left-taken here (sym t ∙ y)) }
 
-    module _ (b r : Bool) (t : b ≡ takesFirst left k) (f : b ≡ false) (q : r ≡ repeatsFirst left) where
-      pub fitting-refused : not r ≡ true → false ≡ whole
-      fitting-refused n = left-refused here (sym t ∙ f) (sym q ∙ not-true r n)
+  module _ {r : Bool} (f : b ≡ false) (q : r ≡ repeatsFirst left) where
+    pub fitting-refused : not r ≡ true → false ≡ whole
+    fitting-refused n = left-refused here (sym t ∙ f) (sym q ∙ not-true r n)
 
-      pub fitting-skipped : not r ≡ false → Fitting rows from end child (left / 65536) whole
-      fitting-skipped n = record {
-        nested = w .nested;
-        past = w .past;
-        items = rw (kinds-some (w .nested) h, ← e) (left-skipped here (sym t ∙ f) (sym q ∙ not-false r n));
-      }
+    pub fitting-skipped : {after : ℕ} → not r ≡ false → after ≡ restFirst left → Fitting rows end child after whole
+    fitting-skipped n a = record { nested = w .nested; items = rw (kinds-some (w .nested) h, ← e, a) (left-skipped here (sym t ∙ f) (sym q ∙ not-false r n)) }
 
 -- the children and the items left become fewer
 pub taken-falls : (rows : List ℕ) (child end next left after : ℕ) → RowEnd rows child end next → after ≡ afterFirst left → (end - next) + after < (end - child) + left
 taken-falls rows child end next left after e a = omega (arith, e .after, e .within, after-less left)
 
-pub skipped-falls : (child end left : ℕ) (r : Bool) → r ≡ repeatsFirst left → not r ≡ false → (end - child) + left / 65536 < (end - child) + left
-skipped-falls child end left r q n = omega (arith, repeats-some left (sym q ∙ not-false r n))
+pub skipped-falls : (child end left after : ℕ) (r : Bool) → after ≡ restFirst left → r ≡ repeatsFirst left → not r ≡ false → (end - child) + after < (end - child) + left
+skipped-falls child end left after r a q n = omega (arith, rest-less left (sym q ∙ not-false r n))
 
 pub ruleset fitting = (fitting-start, fitting-done, fitting-taken, fitting-refused, fitting-skipped, taken-falls, skipped-falls)
 
@@ -98,10 +85,13 @@ module _ (items left : ℕ) (w : Ending items left) where
     pub ending-missed : 0 < left → not r ≡ true → (full : List Item) → items ≡ itemsNumber full → false ≡ fits full []
     ending-missed h n full e = left-missed (w .all full e) h (sym q ∙ not-true r n)
 
-    pub ending-next : not r ≡ false → Ending items (left / 65536)
-    ending-next n = record { all = λ full e. left-passed (w .all full e) (sym q ∙ not-false r n) }
+    pub ending-next : (after : ℕ) → not r ≡ false → after ≡ restFirst left → Ending items after
+    ending-next after n a = record { all = λ full e. rw a (left-passed (w .all full e) (sym q ∙ not-false r n)) }
 
-pub ruleset ending = (ending-start, ending-done, ending-missed, ending-next)
+pub ending-falls : (left after : ℕ) → after ≡ restFirst left → 0 < left → after < left
+ending-falls left after a h = omega (arith, rest-falls left h)
+
+pub ruleset ending = (ending-start, ending-done, ending-missed, ending-next, ending-falls)
 
 -- the loop over the rows
 module _ (rows : List ℕ) (count i k : ℕ) (w : Checking (childrenAt rows) count i) (h : i < count) (e : k ≡ kindAt rows i) where

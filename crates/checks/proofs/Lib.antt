@@ -5,3 +5,4 @@ pub mod Enclosing
 pub mod Kept
 pub mod Nest
 pub mod ChildLaws
+pub mod Passed

@@ -21,6 +21,10 @@ held-facts rows count e =
     let b = both-true (leb count 2000) _ (a .1) in
     record { some = leb-true 1 count (a .0); few = leb-true count 2000 (b .0); room = leb-true (5 * count) (length rows) (b .1) }
 
+pub holds-true : (rows : List ℕ) (count : ℕ) → Held rows count → holds rows count ≡ true
+unfolding holds
+holds-true rows count h = rw (le-leb 1 count (h .some), le-leb count 2000 (h .few), le-leb (5 * count) (length rows) (h .room))
+
 module _ (rows : List ℕ) (count : ℕ) where
   pub holds-none : count < 1 → false ≡ holds rows count
   unfolding holds

@@ -53,3 +53,9 @@ all-from test (suc n) i e k a b =
 -- a check that passed passes at each row
 pub all-pass : (test : ℕ → Checked) (count : ℕ) → firstFrom test count 0 ≡ Passed → (i : ℕ) → i < count → test i ≡ Passed
 all-pass test count e i h = all-from test count 0 e i (omega arith) (omega arith)
+
+-- and one that passes at each row passes
+pub pass-all : (test : ℕ → Checked) (n i : ℕ) → ((k : ℕ) → i ≤ k → k < i + n → test k ≡ Passed) → firstFrom test n i ≡ Passed
+unfolding firstFrom
+pass-all test zero i t = refl
+pass-all test (suc n) i t = rw (t i (omega arith) (omega arith)) (pass-all test n (i + 1) (λ k a b. t k (omega arith) (omega arith)))

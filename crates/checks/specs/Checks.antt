@@ -14,7 +14,7 @@ use Rattle.checks.specs.declared.Checked.{Checked}
 use Rattle.checks.specs.declared.Checked.the-variants.{Passed, Refused}
 
 -- document 01's number of each fault. A table that cannot hold its rows is 22 for asking; loading has answered 21 before.
-unfoldable pub numberOf : Fault → ℕ
+abbrev pub numberOf : Fault → ℕ
 numberOf NotHeld = 22
 numberOf UnknownKind = 5
 numberOf WrongSide = 6

@@ -6,11 +6,11 @@ ghost use lib.ListN.{length};
 ghost use Rattle.table.specs.Rows.{kindAt, endAt, tree, Nested};
 ghost use Rattle.kinds.specs.Kinds.{Item, entry, fits};
 ghost use Rattle.kinds.specs.Numbers.{itemsNumber};
-ghost use Rattle.checks.specs.Checks.{holds, orElse, firstFrom, fieldsAt, fieldsOf, endFits, endsAt, endsOf, kindsOf, childrenAt, childrenOf};
+ghost use Rattle.checks.specs.Checks.{numberOf, holds, orElse, firstFrom, fieldsAt, fieldsOf, endFits, endsAt, endsOf, kindsOf, childrenAt, childrenOf};
 ghost use Rattle.checks.specs.Opened.{lastFirst, StillOpen};
 ghost use Rattle.checks.specs.Held.{Held};
 
-// What is wrong with a row; `numberOf` (specs/Checks) gives document 01's number.
+// What is wrong with a row.
 pub enum Fault {
     NotHeld,
     UnknownKind,
@@ -18,6 +18,20 @@ pub enum Fault {
     WrongEnd,
     TooDeep,
     WrongChildren,
+}
+
+// Document 01's number of a fault.
+pub fn number_of(fault: Fault) -> u32
+    ensures { λ r. ⌜ r ≡ numberOf fault ⌝ }
+{
+    match fault {
+        Fault::NotHeld => 22,
+        Fault::UnknownKind => 5,
+        Fault::WrongSide => 6,
+        Fault::WrongEnd => 7,
+        Fault::TooDeep => 8,
+        Fault::WrongChildren => 9,
+    }
 }
 
 // The first refusal, with its row; 0 where the table cannot hold its rows.
@@ -139,7 +153,7 @@ fn all_repeat(items: usize) -> bool
         if !kinds::repeats_first(left) {
             return false;
         }
-        left = left / 65536;
+        left = kinds::rest_first(left);
     }
     true
 }
@@ -161,7 +175,7 @@ fn children_fit(rows: &[u32], i: usize, to: usize, items: usize) -> bool
             if !kinds::repeats_first(left) {
                 return false;
             }
-            left = left / 65536;
+            left = kinds::rest_first(left);
         }
     }
     all_repeat(left)

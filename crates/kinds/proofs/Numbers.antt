@@ -9,7 +9,7 @@ use lib.Dec.{eqb, leb, ltb, leb·suc-suc, eqb·suc-zero}
 use borrow.Author.Tests.{ltb-true, ltb-false, lt-ltb, le-ltb, le-leb, lt-leb, eqb-true, eqb-false}
 use Rattle.kinds.specs.declared.Kind.{Kind}
 use Rattle.kinds.specs.Kinds.{Class, absent, path, seg, delay, intra, star-or-list, event, arm, decl, S, E, L, Sides, zero-only, up-to, name-number, Item, kinds, noEntry, entry, classNumber, isKind, inClass, sideFits, takes}
-use Rattle.kinds.specs.Numbers.{sidesNumber, sideBelow, Range, range, bit, itemNumber, itemsNumber, ofFirst, takesFirst, repeatsFirst, numbers}
+use Rattle.kinds.specs.Numbers.{sidesNumber, sideBelow, Range, range, bit, itemNumber, itemsNumber, ofFirst, takesFirst, repeatsFirst, restFirst, numbers}
 use Rattle.kinds.proofs.Below.{true-not-false, and-false, everyBelow, below}
 
 -- the side numbers below a count of one: 0
@@ -138,7 +138,8 @@ unfolding repeatsFirst
 repeats-first i items = first-digits i items .repeats
 
 -- the other items
-pub rest-number : (i : Item) (items : List Item) → itemsNumber (i ∷ items) / 65536 ≡ itemsNumber items
+pub rest-number : (i : Item) (items : List Item) → restFirst (itemsNumber (i ∷ items)) ≡ itemsNumber items
+unfolding restFirst
 rest-number i items = first-digits i items .rest
 
 -- a number with an item is not 0

@@ -6,7 +6,7 @@ use mathlib.Core.List.{List, [], _∷_}
 use native.Mathlib.Omega.{arith}
 use borrow.Author.Tests.{leb-true}
 use Rattle.kinds.specs.Kinds.{Item, takes, fits}
-use Rattle.kinds.specs.Numbers.{itemsNumber, takesFirst, repeatsFirst, afterFirst}
+use Rattle.kinds.specs.Numbers.{itemsNumber, takesFirst, repeatsFirst, restFirst, afterFirst}
 use Rattle.kinds.proofs.Below.{true-not-false}
 use Rattle.kinds.proofs.Numbers.{takes-first, repeats-first, rest-number, some-number, takes-none, repeats-none}
 use Rattle.kinds.proofs.Items.{allRepeat, fits-none, fits-once, fits-again, fits-skip, fits-not}
@@ -25,7 +25,7 @@ module _ (left : ℕ) (i : Item) (items : List Item) (e : left ≡ itemsNumber (
   repeats-is : repeatsFirst left ≡ i .may-repeat
   repeats-is = rw e (repeats-first i items)
 
-  rest-is : left / 65536 ≡ itemsNumber items
+  rest-is : restFirst left ≡ itemsNumber items
   rest-is = rw e (rest-number i items)
 
 -- no item is left: nothing is taken, nothing repeats
@@ -42,11 +42,11 @@ module _ (left k : ℕ) (ks : List ℕ) (whole : Bool) where
   taken [] e s t = takes-never left e k t
   taken (i ∷ items) e s t = go (i .may-repeat) refl
     where
-      go : (b : Bool) → i .may-repeat ≡ b → Left (cond (repeatsFirst left) left (left / 65536)) ks whole
+      go : (b : Bool) → i .may-repeat ≡ b → Left (cond (repeatsFirst left) left (restFirst left)) ks whole
       go true q = record { items = i ∷ items; number = rw (repeats-is left i items e ∙ q) e; same = s ∙ fits-again i items k ks (takes-is left i items e k true t) q }
       go false q = record { items = items; number = rw (repeats-is left i items e ∙ q) (rest-is left i items e); same = s ∙ fits-once i items k ks (takes-is left i items e k true t) q }
 
-  skipped : (items : List Item) → left ≡ itemsNumber items → whole ≡ fits items (k ∷ ks) → takesFirst left k ≡ false → repeatsFirst left ≡ true → Left (left / 65536) (k ∷ ks) whole
+  skipped : (items : List Item) → left ≡ itemsNumber items → whole ≡ fits items (k ∷ ks) → takesFirst left k ≡ false → repeatsFirst left ≡ true → Left (restFirst left) (k ∷ ks) whole
   unfolding itemsNumber
   skipped [] e s t r = repeats-never left e r
   skipped (i ∷ items) e s t r = record { items = items; number = rest-is left i items e; same = s ∙ fits-skip i items k ks (takes-is left i items e k false t) (sym (repeats-is left i items e) ∙ r) }
@@ -62,7 +62,7 @@ module _ {left k : ℕ} {ks : List ℕ} {whole : Bool} (w : Left left (k ∷ ks)
   left-taken t = taken left k ks whole (w .items) (w .number) (w .same) t
 
   -- it does not, and the child is for the next item
-  pub left-skipped : takesFirst left k ≡ false → repeatsFirst left ≡ true → Left (left / 65536) (k ∷ ks) whole
+  pub left-skipped : takesFirst left k ≡ false → repeatsFirst left ≡ true → Left (restFirst left) (k ∷ ks) whole
   left-skipped t r = skipped left k ks whole (w .items) (w .number) (w .same) t r
 
   -- it does not, and it must
@@ -76,7 +76,7 @@ module _ (left : ℕ) (whole : Bool) where
   ended [] e s h = sym s
   ended (i ∷ items) e s h = absurd (omega (arith, some-number i items))
 
-  passed : (items : List Item) → left ≡ itemsNumber items → whole ≡ fits items [] → repeatsFirst left ≡ true → Left (left / 65536) [] whole
+  passed : (items : List Item) → left ≡ itemsNumber items → whole ≡ fits items [] → repeatsFirst left ≡ true → Left (restFirst left) [] whole
   unfolding allRepeat itemsNumber
   passed [] e s r = repeats-never left e r
   passed (i ∷ items) e s r =
@@ -94,21 +94,25 @@ module _ {left : ℕ} {whole : Bool} (w : Left left [] whole) where
   pub left-ended : left ≤ 0 → true ≡ whole
   left-ended h = ended left whole (w .items) (w .number) (w .same) h
 
-  pub left-passed : repeatsFirst left ≡ true → Left (left / 65536) [] whole
+  pub left-passed : repeatsFirst left ≡ true → Left (restFirst left) [] whole
   left-passed r = passed left whole (w .items) (w .number) (w .same) r
 
   pub left-missed : 0 < left → repeatsFirst left ≡ false → false ≡ whole
   left-missed h r = missed left whole (w .items) (w .number) (w .same) h r
 
--- measures: what is left after a child is no more; what repeats is something
+-- measures: what is left becomes no more, and less without a first item
 pub after-less : (left : ℕ) → afterFirst left ≤ left
-unfolding afterFirst
+unfolding afterFirst restFirst
 after-less left = go (repeatsFirst left)
   where
-    go : (b : Bool) → cond b left (left / 65536) ≤ left
+    go : (b : Bool) → cond b left (restFirst left) ≤ left
     go true = omega arith
     go false = omega arith
 
-pub repeats-some : (left : ℕ) → repeatsFirst left ≡ true → 0 < left
-unfolding repeatsFirst
-repeats-some left r = omega (arith, leb-true 32768 (left % 65536) r)
+pub rest-less : (left : ℕ) → repeatsFirst left ≡ true → restFirst left < left
+unfolding repeatsFirst restFirst
+rest-less left r = omega (arith, leb-true 32768 (left % 65536) r)
+
+pub rest-falls : (left : ℕ) → 0 < left → restFirst left < left
+unfolding restFirst
+rest-falls left h = omega arith

@@ -63,9 +63,13 @@ takesFirst items k = (leb 128 (items % 256) && eqb k 0) || ofFirst items k
 unfoldable pub repeatsFirst : ℕ → Bool
 repeatsFirst items = leb 32768 (items % 65536)
 
+-- the items after the first
+unfoldable pub restFirst : ℕ → ℕ
+restFirst items = items / 65536
+
 -- the items left for the next child, once the first item has taken one
 unfoldable pub afterFirst : ℕ → ℕ
-afterFirst items = cond (repeatsFirst items) items (items / 65536)
+afterFirst items = cond (repeatsFirst items) items (restFirst items)
 
 unfoldable pub numbers : Entry → Kind
 numbers e = record { sides = sidesNumber (e .sides); children = itemsNumber (e .children) }

@@ -3,7 +3,7 @@ ghost use mathlib.Core.Path.{_≡_};
 ghost use mathlib.Core.List.{map};
 ghost use Rattle.kinds.specs.Kinds.{kinds as kindList, inClass, S};
 ghost use Rattle.kinds.specs.Words.{kindOf};
-ghost use Rattle.kinds.specs.Numbers.{numbers, sideBelow, ofFirst, takesFirst, repeatsFirst, afterFirst, keyOf};
+ghost use Rattle.kinds.specs.Numbers.{numbers, sideBelow, ofFirst, takesFirst, repeatsFirst, restFirst, afterFirst, keyOf};
 
 // What the table holds of a kind: how many side numbers it has, 0 for as many as there are names, and its children, four
 // hex digits an item with the first item lowest (specs/Numbers).
@@ -407,6 +407,13 @@ pub fn repeats_first(items: usize) -> bool
     32768 <= items % 65536
 }
 
+// The items after the first.
+pub fn rest_first(items: usize) -> usize
+    ensures { λ r. ⌜ r ≡ restFirst items ⌝ }
+{
+    items / 65536
+}
+
 // The items that are left for the next child, once the first item has taken one.
 pub fn after_first(items: usize) -> usize
     ensures { λ r. ⌜ r ≡ afterFirst items ⌝ }
@@ -414,7 +421,7 @@ pub fn after_first(items: usize) -> usize
     if repeats_first(items) {
         return items;
     }
-    items / 65536
+    rest_first(items)
 }
 
 fn wide(b: u8) -> u64

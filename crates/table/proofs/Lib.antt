@@ -1,4 +1,3 @@
 pub mod Ranges
 pub mod Tree
 pub mod Fold
-pub mod Siblings

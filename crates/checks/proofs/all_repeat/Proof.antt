@@ -18,6 +18,7 @@ all-repeat-spec =
     (λ c. search ending)
     (λ c κs. search needs)
     (λ c. search ending)
-    (λ c. search needs)
+    (λ c κs. search needs)
+    (λ c. search ending)
     (λ c. search ending)
     (λ c. search ending))

@@ -1,4 +1,3 @@
-use mathlib.Core.Path.{sym}
 use borrow.Author.Needs.{needs}
 use Rattle.kinds.specs.Numbers.{afterFirst}
 use Rattle.kinds.proofs.after_first.Statement.{statement}
@@ -11,4 +10,5 @@ after-first-spec =
     (tie.spec
     (λ c κs. search needs)
     (λ c. rw (← c .before .repeats-first .ensures, c .if1 .taken))
-    (λ c. rw (← c .before .repeats-first .ensures, c .if1 .left)))
+    (λ c κs. search needs)
+    (λ c. rw (← c .before .before .repeats-first .ensures, c .before .if1 .left) (c .rest-first .ensures)))

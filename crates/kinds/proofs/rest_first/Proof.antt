@@ -1,0 +1,8 @@
+use mathlib.Core.Path.{refl}
+use Rattle.kinds.specs.Numbers.{restFirst}
+use Rattle.kinds.proofs.rest_first.Statement.{statement}
+use Rattle.kinds.proofs.rest_first.Tie as tie
+
+pub rest-first-spec : {M : Type 1} → statement M
+unfolding restFirst
+rest-first-spec = tie.close (tie.spec (λ c. refl))
