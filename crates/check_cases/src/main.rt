@@ -239,12 +239,17 @@ fn word(text: &[u8]) {
     say(b"\n");
 }
 
-// Kind words: the first and the last, the shortest and the longest, and strings that are none.
+// Kind words: the first and the last, the shortest and the longest, a part of a row line, and strings that are none.
 fn words() {
     word(b"none");
     word(b"lerror");
     word(b"if");
     word(b"nonblocking");
+    let line = b"row=forever 1 0 9 4";
+    let part: &[u8] = line;
+    word(&part[4..11]);
+    word(&part[4..7]);
+    word(&part[4..12]);
     word(b"");
     word(b"i");
     word(b"IF");

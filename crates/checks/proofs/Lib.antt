@@ -6,3 +6,4 @@ pub mod Kept
 pub mod Nest
 pub mod ChildLaws
 pub mod Passed
+pub mod Listing

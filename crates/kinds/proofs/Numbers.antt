@@ -4,13 +4,17 @@ use mathlib.Core.Path.{_≡_, refl, sym, ap, ap₂, _∙_}
 use mathlib.Core.Bool.{Bool, true, false, _&&_, _||_, Bool·beq}
 use mathlib.Core.List.{List, [], _∷_, map}
 use native.Mathlib.Omega.{arith}
-use lib.ListN.{length, getD, List·getD-map}
+use lib.ListN.{length, getD, length-map, List·getD-map}
 use lib.Dec.{eqb, leb, ltb, leb·suc-suc, eqb·suc-zero}
 use borrow.Author.Tests.{ltb-true, ltb-false, lt-ltb, le-ltb, le-leb, lt-leb, eqb-true, eqb-false}
 use Rattle.kinds.specs.declared.Kind.{Kind}
 use Rattle.kinds.specs.Kinds.{Class, absent, path, seg, delay, intra, star-or-list, event, arm, decl, S, E, L, Sides, zero-only, up-to, name-number, Item, kinds, noEntry, entry, classNumber, isKind, inClass, sideFits, takes}
 use Rattle.kinds.specs.Numbers.{sidesNumber, sideBelow, Range, range, bit, itemNumber, itemsNumber, ofFirst, takesFirst, repeatsFirst, restFirst, numbers}
 use Rattle.kinds.proofs.Below.{true-not-false, and-false, everyBelow, below}
+
+pub kinds-count : length kinds ≡ 66
+unfolding kinds
+kinds-count = refl
 
 -- the side numbers below a count of one: 0
 below-one : (n : ℕ) → ltb n 1 ≡ eqb n 0
@@ -54,25 +58,25 @@ tied E = refl
 tied L = refl
 
 -- two hex digits hold each end of a range, with room for a mark
-pub record Fits (c : Class) : Type 0 where
-  pub low : range c .first < 128
-  pub high : range c .past ≤ 66
-  pub some : 0 < range c .past
+record Bounds (c : Class) : Type 0 where
+  low : range c .first < 128
+  high : range c .past ≤ 66
+  some : 0 < range c .past
 
-pub range-fits : (c : Class) → Fits c
+bounds : (c : Class) → Bounds c
 unfolding range
-range-fits absent = record { low = omega arith; high = omega arith; some = omega arith }
-range-fits path = record { low = omega arith; high = omega arith; some = omega arith }
-range-fits seg = record { low = omega arith; high = omega arith; some = omega arith }
-range-fits delay = record { low = omega arith; high = omega arith; some = omega arith }
-range-fits intra = record { low = omega arith; high = omega arith; some = omega arith }
-range-fits star-or-list = record { low = omega arith; high = omega arith; some = omega arith }
-range-fits event = record { low = omega arith; high = omega arith; some = omega arith }
-range-fits arm = record { low = omega arith; high = omega arith; some = omega arith }
-range-fits decl = record { low = omega arith; high = omega arith; some = omega arith }
-range-fits S = record { low = omega arith; high = omega arith; some = omega arith }
-range-fits E = record { low = omega arith; high = omega arith; some = omega arith }
-range-fits L = record { low = omega arith; high = omega arith; some = omega arith }
+bounds absent = record { low = omega arith; high = omega arith; some = omega arith }
+bounds path = record { low = omega arith; high = omega arith; some = omega arith }
+bounds seg = record { low = omega arith; high = omega arith; some = omega arith }
+bounds delay = record { low = omega arith; high = omega arith; some = omega arith }
+bounds intra = record { low = omega arith; high = omega arith; some = omega arith }
+bounds star-or-list = record { low = omega arith; high = omega arith; some = omega arith }
+bounds event = record { low = omega arith; high = omega arith; some = omega arith }
+bounds arm = record { low = omega arith; high = omega arith; some = omega arith }
+bounds decl = record { low = omega arith; high = omega arith; some = omega arith }
+bounds S = record { low = omega arith; high = omega arith; some = omega arith }
+bounds E = record { low = omega arith; high = omega arith; some = omega arith }
+bounds L = record { low = omega arith; high = omega arith; some = omega arith }
 
 same-bool : (a b : Bool) → Bool·beq a b ≡ true → a ≡ b
 same-bool true true e = refl
@@ -87,7 +91,7 @@ in-range c k = go (ltb k 66) refl
     go : (b : Bool) → ltb k 66 ≡ b → inRange c k ≡ inClass c k
     go true e = same-bool _ _ (below (agrees c) 66 (tied c) k (ltb-true k 66 e))
     go false e =
-        rw (e, le-ltb k (range c .past) (omega (arith, ltb-false k 66 e, range-fits c .high)))
+        rw (e, le-ltb k (range c .past) (omega (arith, ltb-false k 66 e, bounds c .high)))
         (and-false (leb (range c .first) k))
 
 -- the kind `none` is 0
@@ -124,7 +128,7 @@ digits n a b m p q l h e =
 first-digits : (i : Item) (items : List Item) → Digits (itemsNumber (i ∷ items)) (range (i .class) .first) (range (i .class) .past) (itemsNumber items) (i .may-be-absent) (i .may-repeat)
 unfolding itemsNumber itemNumber
 first-digits i items =
-    let f = range-fits (i .class) in
+    let f = bounds (i .class) in
     digits (itemsNumber (i ∷ items)) (range (i .class) .first) (range (i .class) .past) (itemsNumber items) (i .may-be-absent) (i .may-repeat) (f .low) (f .high) refl
 
 -- the first item of a number takes the kinds that the item takes
@@ -145,7 +149,7 @@ rest-number i items = first-digits i items .rest
 -- a number with an item is not 0
 pub some-number : (i : Item) (items : List Item) → 0 < itemsNumber (i ∷ items)
 unfolding itemsNumber itemNumber
-some-number i items = omega (arith, range-fits (i .class) .some)
+some-number i items = omega (arith, bounds (i .class) .some)
 
 -- no item takes nothing
 pub takes-none : (k : ℕ) → takesFirst 0 k ≡ false
@@ -162,11 +166,7 @@ any-default [] k d e h = absurd (omega arith)
 any-default (x ∷ l) zero d e h = refl
 any-default (x ∷ l) (suc k) d e h = any-default l k d e (omega arith)
 
-in-kinds : (k : ℕ) → k ≤ 65 → k < length (map numbers kinds)
-unfolding kinds
-in-kinds k h = omega arith
-
 -- an entry of the code's table holds the numbers of the list's
 pub kind-numbers : (entries : List Kind) (k : ℕ) (d : Kind) → entries ≡ map numbers kinds → k ≤ 65 → getD entries k d ≡ numbers (entry k)
 unfolding entry
-kind-numbers entries k d e h = rw e (any-default (map numbers kinds) k d (numbers noEntry) (in-kinds k h) ∙ List·getD-map numbers kinds k noEntry)
+kind-numbers entries k d e h = rw e (any-default (map numbers kinds) k d (numbers noEntry) (simp (length-map, kinds-count) (omega arith)) ∙ List·getD-map numbers kinds k noEntry)

@@ -14,6 +14,7 @@ use Rattle.kinds.specs.Words.{same, placeFrom, kindOf}
 use Rattle.kinds.specs.Numbers.{key, keyOf, letters, isLetter}
 use Rattle.kinds.proofs.Below.{true-not-false, both-true, everyBelow, below}
 use Rattle.kinds.proofs.Keys.{one-word}
+use Rattle.kinds.proofs.Numbers.{kinds-count}
 
 abbrev wordOf : ℕ → List ℕ
 wordOf k = entry k .word
@@ -94,14 +95,10 @@ hit n w (x ∷ es) j e = go (same w (x .word)) refl (λ q. hit (suc n) w es j q)
     go true q more = let f : Is n ≡ Is j = rw q at e in let m : n ≡ j = cc in record { i = 0; within = omega arith; at = omega arith; word = same-is w (x .word) q }
     go false q more = let h = more (rw q at e) in record { i = suc (h .i); within = omega (arith, h .within); at = omega (arith, h .at); word = h .word }
 
-in-table : (i : ℕ) → i < length kinds → i < 66
-unfolding kinds
-in-table i h = h
-
 -- a kind that is found is a number of the table
 pub found-below : (s : List ℕ) (k : ℕ) → kindOf s ≡ Is k → k < 66
 unfolding kindOf
-found-below s k e = let h = hit 0 s kinds k e in omega (arith, in-table (h .i) (h .within), h .at)
+found-below s k e = let h = hit 0 s kinds k e in omega (arith, h .within, h .at, kinds-count)
 
 -- a byte string whose key is no kind's is no kind's word
 find-unknown : (s : List ℕ) → ((k : ℕ) → k < 66 → keyOf s ≡ key (wordOf k) → ⊥) → Unknown ≡ kindOf s
@@ -112,7 +109,7 @@ find-unknown s differs = go (kindOf s) refl
     go Unknown q = refl
     go (Is j) q =
         let h = hit 0 s kinds j q in
-        let b = in-table (h .i) (h .within) in
+        let b : h .i < 66 = omega (arith, h .within, kinds-count) in
         let w : s ≡ wordOf (h .i) = h .word in
         absurd (differs (h .i) b (ap keyOf w ∙ key-word (h .i) b))
 
@@ -136,10 +133,6 @@ differs-at v known [] d k h = absurd (omega arith)
 differs-at v known (x ∷ es) d zero h = differs-known v (known × (v ≡ key (x .word) → ⊥)) es d .1
 differs-at v known (x ∷ es) d (suc k) h = differs-at v (known × (v ≡ key (x .word) → ⊥)) es d k (omega arith)
 
-in-kinds : (k : ℕ) → k < 66 → k < length kinds
-unfolding kinds
-in-kinds k h = h
-
-pub rest : (s : List ℕ) (v : ℕ) → v ≡ keyOf s → Differs v (Unit {0}) kinds → Unknown ≡ kindOf s
+pub no-arm : (s : List ℕ) (v : ℕ) → v ≡ keyOf s → Differs v (Unit {0}) kinds → Unknown ≡ kindOf s
 unfolding entry
-rest s v e d = find-unknown s (λ k h q. differs-at v (Unit {0}) kinds d k (in-kinds k h) (e ∙ q))
+no-arm s v e d = find-unknown s (λ k h q. differs-at v (Unit {0}) kinds d k (omega (arith, kinds-count)) (e ∙ q))

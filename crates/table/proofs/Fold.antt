@@ -4,9 +4,9 @@ use mathlib.Core.List.{List, [], _∷_, _++_}
 use Prim.Native.Nat.{ℕ, zero, suc, _+_, _≤_, _<_}
 use native.Mathlib.Omega.{arith}
 use Rattle.table.specs.Rows.{kindAt, sideAt, loAt, hiAt, endAt, Forest, nil, node, tree, Nested, append, rest, nextOf}
-use Rattle.table.specs.Fold.{Alg, fold, nth, tail, Pairwise, none, both}
+use Rattle.table.specs.Fold.{Alg, fold, nth, tail, Pairwise, no-pair, pair}
 use Rattle.table.proofs.Ranges.{ends-after, alone}
-use Rattle.table.proofs.Tree.{tree-none, tree-some, tree-next, cut}
+use Rattle.table.proofs.Tree.{tree-none, tree-some, tree-after, tree-next, cut}
 
 module _ {A : Type 0} (alg : Alg A) where
   -- no rows, no attributes
@@ -57,18 +57,22 @@ module _ {A : Type 0} (alg : Alg A) where
   pub fold-cut : {rows : List ℕ} {a b c : ℕ} → Nested rows a b → Nested rows a c → b ≤ c → fold alg (tree rows a c) ≡ fold alg (tree rows a b) ++ fold alg (tree rows b c)
   fold-cut {rows} {a} {b} {c} g w h = rw (cut g w h) (fold-append (tree rows a b) (tree rows b c))
 
+  -- in preorder: the attributes of the rows after the first, of which those of its children come first
+  pub fold-after : {rows : List ℕ} {from to : ℕ} → Nested rows from to → from < to → fold alg (tree rows (from + 1) to) ≡ fold alg (tree rows (from + 1) (endAt rows from)) ++ fold alg (tree rows (endAt rows from) to)
+  fold-after {rows} {from} {to} g h = rw (tree-after g h) (fold-append (tree rows (from + 1) (endAt rows from)) (tree rows (endAt rows from) to))
+
 -- two attributes are related at every row, if they are at each row whose children's are
 pub fold-related : {A B : Type 0} {R : A → B → Type 0} (one : Alg A) (two : Alg B)
     → ((k s lo hi : ℕ) (cs : Forest) → Pairwise R (fold one cs) (fold two cs) → R (one k s lo hi cs (fold one cs)) (two k s lo hi cs (fold two cs)))
     → (f : Forest)
     → Pairwise R (fold one f) (fold two f)
 unfolding fold
-fold-related one two step nil = none
+fold-related one two step nil = no-pair
 fold-related one two step (node k s lo hi cs others) =
-    both (step k s lo hi cs (fold-related one two step cs)) (fold-related one two step others)
+    pair (step k s lo hi cs (fold-related one two step cs)) (fold-related one two step others)
 
 -- what is related place by place, and by default, is related at every place
 pub related-at : {A B : Type 0} {R : A → B → Type 0} (d : A) (e : B) {xs : List A} {ys : List B} (n : ℕ) → R d e → Pairwise R xs ys → R (nth d n xs) (nth e n ys)
-related-at d e n r none = r
-related-at d e zero r (both h hs) = h
-related-at d e (suc n) r (both h hs) = related-at d e n r hs
+related-at d e n r no-pair = r
+related-at d e zero r (pair h hs) = h
+related-at d e (suc n) r (pair h hs) = related-at d e n r hs

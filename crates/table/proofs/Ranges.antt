@@ -48,8 +48,8 @@ module _ {rows : List ℕ} {from to : ℕ} (g : Nested rows from to) (h : from <
   children = later alone (from + 1) (omega arith) (omega (arith, ends-after))
 
 -- no rows
-pub none : {rows : List ℕ} {from to : ℕ} → Nested rows from to → Nested rows to to
-none {to = to} g = later g to (g .ordered) (omega arith)
+pub empty : {rows : List ℕ} {from to : ℕ} → Nested rows from to → Nested rows to to
+empty {to = to} g = later g to (g .ordered) (omega arith)
 
 -- what the calls of the table tell
 module _ {rows : List ℕ} {from to r : ℕ} (g : Nested rows from to) where
@@ -78,5 +78,5 @@ module _ {rows : List ℕ} {from to r : ℕ} (g : Nested rows from to) where
     after = omega (arith, g .ordered);
     within = omega arith;
     alone = rw e g;
-    others = rw e (none g);
+    others = rw e (empty g);
   }

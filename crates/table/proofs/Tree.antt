@@ -7,7 +7,7 @@ use native.Mathlib.Omega.{arith}
 use lib.Dec.{ltb}
 use borrow.Author.Tests.{ltb-true, ltb-false, lt-ltb, le-ltb}
 use Rattle.table.specs.Rows.{kindAt, sideAt, loAt, hiAt, endAt, Forest, nil, node, treeBy, tree, Nested, append, rest, nextOf}
-use Rattle.table.proofs.Ranges.{ends-after, ends-within, others, children}
+use Rattle.table.proofs.Ranges.{later, ends-after, ends-within, others, children}
 
 by-none : (n : ℕ) (rows : List ℕ) (from to : ℕ) → to ≤ from → treeBy n rows from to ≡ nil
 unfolding treeBy
@@ -70,6 +70,10 @@ cut-by (suc n) {rows} {a} {b} {c} e g w h =
 -- the rows from a up to c, cut at a place b between two siblings
 pub cut : {rows : List ℕ} {a b c : ℕ} → Nested rows a b → Nested rows a c → b ≤ c → tree rows a c ≡ append (tree rows a b) (tree rows b c)
 cut {a = a} {b = b} g w h = cut-by (b - a) (omega arith) g w h
+
+-- in preorder: the rows after the first are its children, then the siblings after it
+pub tree-after : {rows : List ℕ} {from to : ℕ} → Nested rows from to → from < to → tree rows (from + 1) to ≡ append (tree rows (from + 1) (endAt rows from)) (tree rows (endAt rows from) to)
+tree-after {from = from} g h = cut (children g h) (later g (from + 1) (omega arith) (omega arith)) (ends-within g h)
 
 -- from the next sibling on
 pub tree-next : {rows : List ℕ} {from to : ℕ} (n : ℕ) → Nested rows from to → n ≡ nextOf rows from to → tree rows n to ≡ rest (tree rows from to)

@@ -24,5 +24,5 @@ tail (x ∷ xs) = xs
 
 -- two lists of one length, related place by place
 pub data Pairwise {A B : Type 0} (R : A → B → Type 0) : List A → List B → Type 0 where
-  none : Pairwise R [] []
-  both : {x : A} {y : B} {xs : List A} {ys : List B} → R x y → Pairwise R xs ys → Pairwise R (x ∷ xs) (y ∷ ys)
+  no-pair : Pairwise R [] []
+  pair : {x : A} {y : B} {xs : List A} {ys : List B} → R x y → Pairwise R xs ys → Pairwise R (x ∷ xs) (y ∷ ys)

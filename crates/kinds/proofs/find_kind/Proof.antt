@@ -2,7 +2,7 @@ use mathlib.Core.Path.{refl}
 use borrow.Author.Needs.{needs}
 use Rattle.kinds.specs.Kinds.{kinds, entry}
 use Rattle.kinds.specs.Numbers.{key}
-use Rattle.kinds.proofs.Words.{arm, rest, Differs}
+use Rattle.kinds.proofs.Words.{arm, no-arm, Differs}
 use Rattle.kinds.proofs.find_kind.Statement.{statement}
 use Rattle.kinds.proofs.find_kind.Tie as tie
 
@@ -78,4 +78,4 @@ find-kind-spec =
     (λ c. arm _ 63 _ refl (c .before .key-of .ensures) (c .match .keys64))
     (λ c. arm _ 64 _ refl (c .before .key-of .ensures) (c .match .keys65))
     (λ c. arm _ 65 _ refl (c .before .key-of .ensures) (c .match .keys66))
-    (λ c. rest _ _ (c .before .key-of .ensures) (c .match .rest)))
+    (λ c. no-arm _ _ (c .before .key-of .ensures) (c .match .rest)))
