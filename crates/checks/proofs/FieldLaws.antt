@@ -1,19 +1,17 @@
 -- A row's fields, as the code meets them.
 use Prim.Native.Nat.{ℕ, _+_, _≤_, _<_}
-use mathlib.Core.Path.{_≡_, refl, sym, ap, _∙_}
+use mathlib.Core.Path.{_≡_, _∙_}
 use mathlib.Core.Bool.{Bool, true, false, cond, not}
 use mathlib.Core.List.{List, map}
 use native.Mathlib.Omega.{arith}
-use lib.Dec.{ltb}
 use lib.ListN.{getD}
 use borrow.Author.Tests.{lt-ltb, le-ltb, not-true, not-false}
 use Rattle.table.specs.Rows.{kindAt, sideAt}
 use Rattle.kinds.specs.declared.Kind.{Kind}
-use Rattle.kinds.specs.Kinds.{kinds, noEntry, entry, isKind, sideFits}
-use Rattle.kinds.specs.Numbers.{numbers, sidesNumber, sideBelow}
+use Rattle.kinds.specs.Kinds.{kinds, entry, isKind}
+use Rattle.kinds.specs.Numbers.{numbers, sideBelow}
 use Rattle.kinds.proofs.Numbers.{kind-numbers, side-number}
 use Rattle.checks.specs.declared.Fault.the-variants.{UnknownKind, WrongSide}
-use Rattle.checks.specs.declared.Checked.{Checked}
 use Rattle.checks.specs.declared.Checked.the-variants.{Passed, Refused}
 use Rattle.checks.specs.Checks.{firstFrom, fieldsAt}
 use Rattle.checks.proofs.Rows.{Checking, checking-start, checking-done, checking-stop, checking-next}

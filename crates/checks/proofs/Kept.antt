@@ -2,16 +2,15 @@
 use Prim.Native.Nat.{ℕ, zero, suc, _+_, _-_, _≤_, _<_}
 use mathlib.Core.Path.{_≡_, refl, sym, ap, _∙_}
 use mathlib.Core.Bool.{Bool, true, false, not}
-use mathlib.Core.List.{List, [], _∷_}
+use mathlib.Core.List.{List, _∷_}
 use native.Mathlib.Omega.{arith}
 use native.Mathlib.Numerals.{add-one}
 use lib.ListN.{length, getD, set, length-set}
 use lib.Seq.{getD-set-same, getD-set-other}
-use lib.Dec.{eqb, leb, ltb}
+use lib.Dec.{eqb, leb}
 use borrow.Author.Tests.{lt-ltb, le-leb, lt-leb, le-ltb, not-true, not-false}
 use Rattle.table.specs.Rows.{endAt}
 use Rattle.checks.specs.declared.Fault.the-variants.{WrongEnd, TooDeep}
-use Rattle.checks.specs.declared.Checked.{Checked}
 use Rattle.checks.specs.declared.Checked.the-variants.{Passed, Refused}
 use Rattle.checks.specs.Checks.{firstFrom, enclosing, endsBefore, above, endFits, depthAt, endsAt}
 use Rattle.checks.specs.Opened.{lastFirst, closeTo, StillOpen}

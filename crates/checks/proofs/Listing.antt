@@ -6,7 +6,6 @@ use mathlib.Core.List.{List, [], _∷_}
 use Rattle.table.specs.Rows.{Forest, nil, node, tree, treeBy}
 use Rattle.table.specs.Fold.{fold}
 use Rattle.kinds.specs.Kinds.{kinds, entry, isKind, inClass, classNumber, sideFits, takes, once, many, fits}
-use Rattle.checks.specs.declared.Checked.{Checked}
 use Rattle.checks.specs.declared.Checked.the-variants.{Passed, Refused}
 use Rattle.checks.specs.declared.Fault.the-variants.{WrongSide}
 use Rattle.checks.specs.Checks.{holds, whenHeld, orElse, firstFrom, fieldsAt, fieldsOf, endsBefore, above, enclosing, endFits, depthAt, endsAt, endsOf, kindAlone, childrenFit, childrenAt, rootAt, childrenOf}

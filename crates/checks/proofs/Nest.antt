@@ -1,7 +1,7 @@
 -- The ends of a table pass the check exactly where they nest, row 0 ends at the count, and no row stands deeper than 100.
 -- That they nest is the premise of the laws of the tree.
-use Prim.Native.Nat.{ℕ, zero, suc, _+_, _*_, _≤_, _<_}
-use mathlib.Core.Path.{_≡_, refl, sym, _∙_}
+use Prim.Native.Nat.{ℕ, zero, suc, _*_, _≤_, _<_}
+use mathlib.Core.Path.{_≡_, refl}
 use mathlib.Core.Bool.{Bool, true, false, cond}
 use mathlib.Core.List.{List, [], _∷_}
 use mathlib.Core.Logic.{⊎-elim}
@@ -12,11 +12,10 @@ use lib.ListN.{length}
 use lib.Dec.{leb, ltb}
 use borrow.Author.Tests.{ltb-true, ltb-false, lt-ltb, leb-true, le-leb, eqb-true, eq-eqb}
 use Rattle.table.specs.Rows.{endAt, Nested}
-use Rattle.checks.specs.declared.Checked.{Checked}
 use Rattle.checks.specs.declared.Checked.the-variants.{Passed, Refused}
 use Rattle.checks.specs.declared.Fault.the-variants.{WrongEnd, TooDeep}
 use Rattle.checks.specs.Held.{Held}
-use Rattle.checks.specs.Checks.{whenHeld, firstFrom, endsBefore, above, enclosing, endFits, depthAt, endsAt, endsOf}
+use Rattle.checks.specs.Checks.{whenHeld, endsBefore, above, enclosing, endFits, depthAt, endsAt, endsOf}
 use Rattle.checks.proofs.Rows.{all-pass, pass-all}
 use Rattle.checks.proofs.Room.{passed-held, passed-found, holds-true}
 use Rattle.checks.proofs.Enclosing.{Rises, AtLeast, rises-next, end-least, end-after}

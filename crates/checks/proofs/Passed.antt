@@ -1,7 +1,7 @@
 -- What a table is told by the checks that it passed: of fields, and of children. (Of ends: Nest.)
 use Prim.Native.Nat.{ℕ, _+_, _<_}
-use mathlib.Core.Path.{_≡_, refl, sym, _∙_}
-use mathlib.Core.Bool.{Bool, true, false, cond, _&&_}
+use mathlib.Core.Path.{_≡_, refl}
+use mathlib.Core.Bool.{Bool, true, false, cond}
 use mathlib.Core.List.{List}
 use native.Mathlib.Omega.{arith}
 use lib.Dec.{ltb}
@@ -11,7 +11,6 @@ use Rattle.kinds.specs.Kinds.{S, entry, isKind, inClass, sideFits, fits}
 use Rattle.kinds.proofs.Below.{both-true}
 use Rattle.checks.specs.declared.Fault.{Fault}
 use Rattle.checks.specs.declared.Fault.the-variants.{UnknownKind, WrongSide, WrongChildren}
-use Rattle.checks.specs.declared.Checked.{Checked}
 use Rattle.checks.specs.declared.Checked.the-variants.{Passed, Refused}
 use Rattle.checks.specs.Held.{Held}
 use Rattle.checks.specs.Checks.{orElse, firstFrom, fieldsAt, fieldsOf, endsOf, kindsOf, childrenFit, childrenAt, rootAt, childrenOf}

@@ -1,15 +1,15 @@
 -- The numbers of the table say what its entries say: side numbers, classes, items.
 use Prim.Native.Nat.{ℕ, zero, suc, _+_, _*_, _/_, _%_, _≤_, _<_}
-use mathlib.Core.Path.{_≡_, refl, sym, ap, ap₂, _∙_}
-use mathlib.Core.Bool.{Bool, true, false, _&&_, _||_, Bool·beq}
+use mathlib.Core.Path.{_≡_, refl, sym, _∙_}
+use mathlib.Core.Bool.{Bool, true, false, _&&_, Bool·beq}
 use mathlib.Core.List.{List, [], _∷_, map}
 use native.Mathlib.Omega.{arith}
 use lib.ListN.{length, getD, length-map, List·getD-map}
 use lib.Dec.{eqb, leb, ltb, leb·suc-suc, eqb·suc-zero}
-use borrow.Author.Tests.{ltb-true, ltb-false, lt-ltb, le-ltb, le-leb, lt-leb, eqb-true, eqb-false}
+use borrow.Author.Tests.{ltb-true, ltb-false, le-ltb, le-leb, lt-leb, eqb-true, eqb-false}
 use Rattle.kinds.specs.declared.Kind.{Kind}
 use Rattle.kinds.specs.Kinds.{Class, absent, path, seg, delay, intra, star-or-list, event, arm, decl, S, E, L, Sides, zero-only, up-to, name-number, Item, kinds, noEntry, entry, classNumber, isKind, inClass, sideFits, takes}
-use Rattle.kinds.specs.Numbers.{sidesNumber, sideBelow, Range, range, bit, itemNumber, itemsNumber, ofFirst, takesFirst, repeatsFirst, restFirst, numbers}
+use Rattle.kinds.specs.Numbers.{sidesNumber, sideBelow, range, bit, itemNumber, itemsNumber, ofFirst, takesFirst, repeatsFirst, restFirst, numbers}
 use Rattle.kinds.proofs.Below.{true-not-false, and-false, everyBelow, below}
 
 pub kinds-count : length kinds ≡ 66

@@ -2,7 +2,6 @@
 use mathlib.Core.Path.{_≡_, refl}
 use mathlib.Core.List.{List, [], _∷_, _++_}
 use Prim.Native.Nat.{ℕ, zero, suc, _+_, _≤_, _<_}
-use native.Mathlib.Omega.{arith}
 use Rattle.table.specs.Rows.{kindAt, sideAt, loAt, hiAt, endAt, Forest, nil, node, tree, Nested, append, rest, nextOf}
 use Rattle.table.specs.Fold.{Alg, fold, nth, tail, Pairwise, no-pair, pair}
 use Rattle.table.proofs.Ranges.{ends-after, alone}

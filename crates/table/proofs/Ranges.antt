@@ -2,11 +2,11 @@
 use mathlib.Core.Path.{_≡_, refl, _∙_}
 use mathlib.Core.Bool.{Bool, true, false}
 use mathlib.Core.List.{List}
-use Prim.Native.Nat.{ℕ, _+_, _*_, _≤_, _<_}
+use Prim.Native.Nat.{ℕ, _+_, _≤_, _<_}
 use native.Mathlib.Omega.{arith}
 use lib.Dec.{ltb}
 use borrow.Author.Tests.{ltb-true, ltb-false, lt-ltb, le-ltb}
-use Rattle.table.specs.Rows.{endAt, Nested, nextOf, RowEnd, NextRow}
+use Rattle.table.specs.Rows.{endAt, Nested, RowEnd, NextRow}
 
 -- from a later row on
 pub later : {rows : List ℕ} {from to : ℕ} → Nested rows from to → (i : ℕ) → from ≤ i → i ≤ to → Nested rows i to

@@ -6,7 +6,7 @@ use Prim.Native.Nat.{ℕ, zero, suc, _+_, _-_, _≤_, _<_}
 use native.Mathlib.Omega.{arith}
 use lib.Dec.{ltb}
 use borrow.Author.Tests.{ltb-true, ltb-false, lt-ltb, le-ltb}
-use Rattle.table.specs.Rows.{kindAt, sideAt, loAt, hiAt, endAt, Forest, nil, node, treeBy, tree, Nested, append, rest, nextOf}
+use Rattle.table.specs.Rows.{kindAt, sideAt, loAt, hiAt, endAt, nil, node, treeBy, tree, Nested, append, rest, nextOf}
 use Rattle.table.proofs.Ranges.{later, ends-after, ends-within, others, children}
 
 by-none : (n : ℕ) (rows : List ℕ) (from to : ℕ) → to ≤ from → treeBy n rows from to ≡ nil
