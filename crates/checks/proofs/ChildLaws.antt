@@ -5,6 +5,7 @@ use mathlib.Core.Bool.{Bool, true, false, cond, not}
 use mathlib.Core.List.{List, [], _∷_, map}
 use native.Mathlib.Omega.{arith}
 use lib.ListN.{length, getD}
+use lib.Dec.{eqb}
 use borrow.Author.Tests.{lt-ltb, le-ltb, not-true, not-false}
 use Rattle.table.specs.Rows.{kindAt, endAt, tree, Nested, RowEnd}
 use Rattle.table.proofs.Ranges.{later}
@@ -12,15 +13,14 @@ use Rattle.table.proofs.Fold.{fold-none, fold-some}
 use Rattle.kinds.specs.declared.Kind.{Kind}
 use Rattle.kinds.specs.Kinds.{Item, kinds, entry, isKind, inClass, S, fits}
 use Rattle.kinds.specs.Numbers.{numbers, itemsNumber, takesFirst, repeatsFirst, restFirst, afterFirst}
-use Rattle.kinds.proofs.Numbers.{kind-numbers}
-use Rattle.kinds.proofs.Steps.{Left, left-taken, left-skipped, left-refused, left-ended, left-passed, left-missed, after-less, rest-less, rest-falls}
+use Rattle.kinds.proofs.Numbers.{entry-items}
+use Rattle.kinds.proofs.Steps.{Left, left-taken, left-skipped, left-refused, left-passed, left-ended, after-less, rest-less}
 use Rattle.checks.specs.declared.Fault.{Fault}
 use Rattle.checks.specs.declared.Fault.the-variants.{WrongChildren}
 use Rattle.checks.specs.declared.Checked.{Checked}
 use Rattle.checks.specs.declared.Checked.the-variants.{Passed, Refused}
-use Rattle.checks.specs.Checks.{whenHeld, orElse, firstFrom, endsOf, kindAlone, kindsOf, childrenFit, childrenAt, rootAt, childrenOf}
+use Rattle.checks.specs.Checks.{firstFrom, endsOf, kindAlone, kindsOf, childrenFit, childrenAt, rootAt, childrenOf}
 use Rattle.checks.proofs.Nest.{ends-passed}
-use Rattle.checks.proofs.Room.{passed-holds}
 use Rattle.checks.proofs.Rows.{Checking, checking-start, checking-done, checking-stop, checking-next}
 
 -- the kinds of the siblings from a row on: its own, then the others'
@@ -76,29 +76,25 @@ pub record Ending (items left : ℕ) : Type 0 where
 pub ending-start : (items : ℕ) → Ending items items
 ending-start items = record { all = λ full e. record { items = full; number = e; same = refl } }
 
-module _ (items left : ℕ) (w : Ending items left) where
-  pub ending-done : left ≤ 0 → (full : List Item) → items ≡ itemsNumber full → true ≡ fits full []
-  ending-done h full e = left-ended (w .all full e) h
+module _ (items left : ℕ) (w : Ending items left) (r : Bool) (q : r ≡ repeatsFirst left) where
+  pub ending-next : (after : ℕ) → r ≡ true → after ≡ restFirst left → Ending items after
+  ending-next after y a = record { all = λ full e. rw a (left-passed (w .all full e) (sym q ∙ y)) }
 
-  module _ (r : Bool) (q : r ≡ repeatsFirst left) where
-    pub ending-missed : 0 < left → not r ≡ true → (full : List Item) → items ≡ itemsNumber full → false ≡ fits full []
-    ending-missed h n full e = left-missed (w .all full e) h (sym q ∙ not-true r n)
+  pub ending-done : r ≡ false → (full : List Item) → items ≡ itemsNumber full → eqb left 0 ≡ fits full []
+  ending-done f full e = left-ended (w .all full e) (sym q ∙ f)
 
-    pub ending-next : (after : ℕ) → not r ≡ false → after ≡ restFirst left → Ending items after
-    ending-next after n a = record { all = λ full e. rw a (left-passed (w .all full e) (sym q ∙ not-false r n)) }
+pub ending-falls : (left after : ℕ) (r : Bool) → after ≡ restFirst left → r ≡ repeatsFirst left → r ≡ true → after < left
+ending-falls left after r a q y = omega (arith, rest-less left (sym q ∙ y))
 
-pub ending-falls : (left after : ℕ) → after ≡ restFirst left → 0 < left → after < left
-ending-falls left after a h = omega (arith, rest-falls left h)
-
-pub ruleset ending = (ending-start, ending-done, ending-missed, ending-next, ending-falls)
+pub ruleset ending = (ending-start, ending-done, ending-next, ending-falls)
 
 -- the loop over the rows
 module _ (rows : List ℕ) (count i k : ℕ) (w : Checking (childrenAt rows) count i) (h : i < count) (e : k ≡ kindAt rows i) where
-  pub children-unknown : 65 < k → Refused WrongChildren i ≡ firstFrom (childrenAt rows) count 0
+  pub children-unknown : 66 ≤ k → Refused WrongChildren i ≡ firstFrom (childrenAt rows) count 0
   unfolding childrenAt childrenFit isKind
-  children-unknown u = checking-stop w h WrongChildren i (rw (← e, le-ltb k 66 (omega arith)))
+  children-unknown u = checking-stop w h WrongChildren i (rw (← e, le-ltb k 66 u))
 
-  module _ (r : Bool) (u : k ≤ 65) (q : r ≡ fits (entry (kindAt rows i) .children) (kindsOf (tree rows (i + 1) (endAt rows i)))) where
+  module _ (r : Bool) (u : k < 66) (q : r ≡ fits (entry (kindAt rows i) .children) (kindsOf (tree rows (i + 1) (endAt rows i)))) where
     told : childrenAt rows i ≡ cond r Passed (Refused WrongChildren i)
     unfolding childrenAt childrenFit isKind
     told = rw (lt-ltb (kindAt rows i) 66 (omega arith), ← q)
@@ -113,35 +109,30 @@ module _ (rows : List ℕ) (count i k : ℕ) (w : Checking (childrenAt rows) cou
 pub row-nested : (rows : List ℕ) (count i : ℕ) → Nested rows 0 count → i < count → Nested rows i count
 row-nested rows count i g h = later g i (omega arith) (omega arith)
 
-pub items-of : (rows : List ℕ) (i k : ℕ) (entries : List Kind) (d : Kind) → k ≡ kindAt rows i → k ≤ 65 → entries ≡ map numbers kinds → getD entries k d .children ≡ itemsNumber (entry (kindAt rows i) .children)
-unfolding numbers
-items-of rows i k entries d e u t = rw (kind-numbers entries k d t u, e)
+pub items-of : (rows : List ℕ) (i k : ℕ) (entries : List Kind) (d : Kind) → k ≡ kindAt rows i → k < 66 → entries ≡ map numbers kinds → getD entries k d .children ≡ itemsNumber (entry (kindAt rows i) .children)
+items-of rows i k entries d e u t = rw (← e) (entry-items entries k d t u)
 
 pub ruleset answers = (checking-start, checking-done, children-unknown, children-wrong, children-next, row-nested, items-of)
 
 -- the ends, then row 0, then each row's children
 module _ (rows : List ℕ) (count : ℕ) (r : Checked) (e : r ≡ endsOf rows count) where
-  pub ends-refused : (fault : Fault) (row : ℕ) → r ≡ Refused fault row → r ≡ orElse (endsOf rows count) (childrenOf rows count)
+  pub ends-refused : (fault : Fault) (row : ℕ) → r ≡ Refused fault row → r ≡ childrenOf rows count
   ends-refused fault row f = rw (← e, f)
 
   module _ (p : r ≡ Passed) where
     pub children-nest : Nested rows 0 count
-    children-nest = ends-passed rows count (sym e ∙ p) .nested
+    children-nest = ends-passed rows count r e p .nested
 
     pub row-held : 4 < length rows
-    row-held = let h = ends-passed rows count (sym e ∙ p) .held in omega (arith, h .some, h .room)
-
-    found : orElse (endsOf rows count) (childrenOf rows count) ≡ orElse (rootAt rows) (firstFrom (childrenAt rows) count 0)
-    unfolding whenHeld
-    found = rw (← e, p, passed-holds rows count _ (sym e ∙ p))
+    row-held = let h = ends-passed rows count r e p .held in omega (arith, h .some, h .room)
 
     module _ (k : ℕ) (b : Bool) (z : k ≡ kindAt rows 0) (q : b ≡ inClass S k) where
-      pub root-wrong : not b ≡ true → Refused WrongChildren 0 ≡ orElse (endsOf rows count) (childrenOf rows count)
+      pub root-wrong : not b ≡ true → Refused WrongChildren 0 ≡ childrenOf rows count
       unfolding rootAt
-      root-wrong n = sym (found ∙ rw (← z, ← q, not-true b n))
+      root-wrong n = rw (← e, p, ← z, ← q, not-true b n)
 
-      pub root-right : (out : Checked) → not b ≡ false → out ≡ firstFrom (childrenAt rows) count 0 → out ≡ orElse (endsOf rows count) (childrenOf rows count)
+      pub root-right : (out : Checked) → not b ≡ false → out ≡ firstFrom (childrenAt rows) count 0 → out ≡ childrenOf rows count
       unfolding rootAt
-      root-right out n o = o ∙ sym (found ∙ rw (← z, ← q, not-false b n))
+      root-right out n o = rw (← e, p, ← z, ← q, not-false b n) o
 
 pub ruleset whole = (ends-refused, children-nest, row-held, root-wrong, root-right)

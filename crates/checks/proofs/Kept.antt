@@ -72,13 +72,13 @@ module _ (xs : List ℕ) (depth count row end : ℕ) where
     above-zero zero d = absurd (d refl)
     above-zero (suc n) d = omega arith
 
-    pub fits-low : end ≤ row → false ≡ endFits count row end (lastFirst xs depth)
-    unfolding endFits
-    fits-low l = rw (top xs depth (above-zero depth h), le-ltb row end l)
-
     pub fits-within : row < end → leb end (getD xs (depth - 1) 0) ≡ endFits count row end (lastFirst xs depth)
     unfolding endFits
     fits-within l = rw (top xs depth (above-zero depth h), lt-ltb row end l)
+
+    pub fits-low : end ≤ row → false ≡ endFits count row end (lastFirst xs depth)
+    unfolding endFits
+    fits-low l = rw (top xs depth (above-zero depth h), le-ltb row end l)
 
 pub ruleset fitting = (fits-root, fits-low, fits-within)
 

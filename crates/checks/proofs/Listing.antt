@@ -8,7 +8,7 @@ use Rattle.table.specs.Fold.{fold}
 use Rattle.kinds.specs.Kinds.{kinds, entry, isKind, inClass, classNumber, sideFits, takes, once, many, fits}
 use Rattle.checks.specs.declared.Checked.the-variants.{Passed, Refused}
 use Rattle.checks.specs.declared.Fault.the-variants.{WrongSide}
-use Rattle.checks.specs.Checks.{holds, whenHeld, orElse, firstFrom, fieldsAt, fieldsOf, endsBefore, above, enclosing, endFits, depthAt, endsAt, endsOf, kindAlone, childrenFit, childrenAt, rootAt, childrenOf}
+use Rattle.checks.specs.Checks.{holds, whenHeld, firstFrom, fieldsAt, fieldsOf, endsBefore, above, enclosing, endFits, depthAt, endsAt, kindAlone, childrenFit, childrenAt, rootAt, childrenOf}
 
 -- blocking none none lident path seg ident path seg
 abbrev rows : List ℕ
@@ -37,7 +37,7 @@ spelt =
 pub record Listing : Type 0 where
   pub tree : tree rows 0 9 ≡ spelt
   pub fields : fieldsOf rows 9 2 ≡ Passed
-  pub children : orElse (endsOf rows 9) (childrenOf rows 9) ≡ Passed
+  pub children : childrenOf rows 9 ≡ Passed
   pub one-name : fieldsOf rows 9 1 ≡ Refused WrongSide 5
 
 pub listing : Listing

@@ -1,27 +1,27 @@
--- What a table is told by the checks that it passed: of fields, and of children. (Of ends: Nest.)
+-- A table passes the check of fields, or that of children, exactly where it is so at every row. (Of ends: Nest.)
 use Prim.Native.Nat.{ℕ, _+_, _<_}
-use mathlib.Core.Path.{_≡_, refl}
+use mathlib.Core.Path.{_≡_, refl, sym, _∙_}
 use mathlib.Core.Bool.{Bool, true, false, cond}
 use mathlib.Core.List.{List}
-use native.Mathlib.Omega.{arith}
 use lib.Dec.{ltb}
-use borrow.Author.Tests.{ltb-true}
+use borrow.Author.Tests.{ltb-true, lt-ltb}
 use Rattle.table.specs.Rows.{kindAt, sideAt, endAt, tree}
-use Rattle.kinds.specs.Kinds.{S, entry, isKind, inClass, sideFits, fits}
+use Rattle.kinds.specs.Kinds.{S, name-number, entry, isKind, inClass, sideFits, fits}
 use Rattle.kinds.proofs.Below.{both-true}
 use Rattle.checks.specs.declared.Fault.{Fault}
 use Rattle.checks.specs.declared.Fault.the-variants.{UnknownKind, WrongSide, WrongChildren}
+use Rattle.checks.specs.declared.Checked.{Checked}
 use Rattle.checks.specs.declared.Checked.the-variants.{Passed, Refused}
 use Rattle.checks.specs.Held.{Held}
-use Rattle.checks.specs.Checks.{orElse, firstFrom, fieldsAt, fieldsOf, endsOf, kindsOf, childrenFit, childrenAt, rootAt, childrenOf}
-use Rattle.checks.proofs.Rows.{both-pass, all-pass}
-use Rattle.checks.proofs.Room.{passed-held, passed-found}
-use Rattle.checks.proofs.Nest.{RightEnds, ends-passed}
+use Rattle.checks.specs.Checks.{whenHeld, firstFrom, fieldsAt, fieldsOf, endsOf, kindsOf, childrenFit, childrenAt, rootAt, childrenOf}
+use Rattle.checks.proofs.Rows.{never, both-pass, all-pass, pass-all}
+use Rattle.checks.proofs.Room.{holds-true, passed-held, passed-found}
+use Rattle.checks.proofs.Nest.{RightEnds, ends-passed, ends-pass}
 
 -- a test that is refused or passes, and passes
 test-passed : (b : Bool) (fault : Fault) (row : ℕ) → cond b Passed (Refused fault row) ≡ Passed → b ≡ true
 test-passed true fault row e = refl
-test-passed false fault row e = absurd (let z : _≡_ {A = ℕ} 0 1 = cc in omega arith)
+test-passed false fault row e = never e
 
 pub record RightFields (rows : List ℕ) (count names : ℕ) : Type 0 where
   pub held : Held rows count
@@ -37,27 +37,46 @@ fields-at rows names i e = go (ltb (kindAt rows i) 66) refl e
         → cond b (cond (sideFits (entry (kindAt rows i) .sides) names (sideAt rows i)) Passed (Refused WrongSide i)) (Refused UnknownKind i) ≡ Passed
         → (kindAt rows i < 66) × (sideFits (entry (kindAt rows i) .sides) names (sideAt rows i) ≡ true)
     go true q e = (ltb-true (kindAt rows i) 66 q, test-passed _ WrongSide i e)
-    go false q e = absurd (let z : _≡_ {A = ℕ} 0 1 = cc in omega arith)
+    go false q e = never e
 
-pub fields-passed : (rows : List ℕ) (count names : ℕ) → fieldsOf rows count names ≡ Passed → RightFields rows count names
-fields-passed rows count names e =
+pub fields-passed : (rows : List ℕ) (count names : ℕ) (r : Checked) → r ≡ fieldsOf rows count names → r ≡ Passed → RightFields rows count names
+fields-passed rows count names r q p =
+    let e : fieldsOf rows count names ≡ Passed = sym q ∙ p in
     let right : (i : ℕ) → i < count → (kindAt rows i < 66) × (sideFits (entry (kindAt rows i) .sides) names (sideAt rows i) ≡ true) =
     λ i h. fields-at rows names i (all-pass (fieldsAt rows names) count (passed-found rows count _ e) i h) in
     record { held = passed-held rows count _ e; known = λ i h. right i h .0; sides = λ i h. right i h .1 }
 
--- the children of a row fit its kind
+pub fields-pass : (rows : List ℕ) (count names : ℕ) → RightFields rows count names → fieldsOf rows count names ≡ Passed
+unfolding whenHeld fieldsAt isKind
+fields-pass rows count names w = rw (holds-true rows count (w .held)) (pass-all (fieldsAt rows names) count (λ i h. rw (lt-ltb (kindAt rows i) 66 (w .known i h), w .sides i h)))
+
+-- a segment and a declaration name a listed name
+pub named : (rows : List ℕ) (count names i : ℕ) → RightFields rows count names → i < count → entry (kindAt rows i) .sides ≡ name-number → sideAt rows i < names
+unfolding sideFits
+named rows count names i w h e = ltb-true (sideAt rows i) names (rw e at (w .sides i h))
+
 pub record RightChildren (rows : List ℕ) (count : ℕ) : Type 0 where
   pub ends : RightEnds rows count
   pub statement : inClass S (kindAt rows 0) ≡ true
+  pub known : (i : ℕ) → i < count → isKind (kindAt rows i) ≡ true
   pub fitting : (i : ℕ) → i < count → fits (entry (kindAt rows i) .children) (kindsOf (tree rows (i + 1) (endAt rows i))) ≡ true
 
-pub children-passed : (rows : List ℕ) (count : ℕ) → orElse (endsOf rows count) (childrenOf rows count) ≡ Passed → RightChildren rows count
-unfolding rootAt childrenAt childrenFit
-children-passed rows count e =
-    let both = both-pass (endsOf rows count) (childrenOf rows count) e in
-    let found = both-pass (rootAt rows) (firstFrom (childrenAt rows) count 0) (passed-found rows count _ (both .1)) in
+children-at : (rows : List ℕ) (i : ℕ) → childrenAt rows i ≡ Passed → (isKind (kindAt rows i) ≡ true) × (fits (entry (kindAt rows i) .children) (kindsOf (tree rows (i + 1) (endAt rows i))) ≡ true)
+unfolding childrenAt childrenFit
+children-at rows i e = both-true (isKind (kindAt rows i)) _ (test-passed _ WrongChildren i e)
+
+pub children-passed : (rows : List ℕ) (count : ℕ) (r : Checked) → r ≡ childrenOf rows count → r ≡ Passed → RightChildren rows count
+unfolding rootAt
+children-passed rows count r q p =
+    let both = both-pass (endsOf rows count) _ (sym q ∙ p) in
+    let found = both-pass (rootAt rows) (firstFrom (childrenAt rows) count 0) (both .1) in
     record {
-      ends = ends-passed rows count (both .0);
+      ends = ends-passed rows count (endsOf rows count) refl (both .0);
       statement = test-passed _ WrongChildren 0 (found .0);
-      fitting = λ i h. both-true (isKind (kindAt rows i)) _ (test-passed _ WrongChildren i (all-pass (childrenAt rows) count (found .1) i h)) .1;
+      known = λ i h. children-at rows i (all-pass (childrenAt rows) count (found .1) i h) .0;
+      fitting = λ i h. children-at rows i (all-pass (childrenAt rows) count (found .1) i h) .1;
     }
+
+pub children-pass : (rows : List ℕ) (count : ℕ) → RightChildren rows count → childrenOf rows count ≡ Passed
+unfolding rootAt childrenAt childrenFit
+children-pass rows count w = rw (ends-pass rows count (w .ends), w .statement) (pass-all (childrenAt rows) count (λ i h. rw (w .known i h, w .fitting i h)))

@@ -3,7 +3,6 @@ use Prim.Native.Nat.{ℕ, _*_, _≤_, _<_}
 use mathlib.Core.Path.{_≡_, refl, sym, _∙_}
 use mathlib.Core.Bool.{Bool, true, false, cond, not}
 use mathlib.Core.List.{List}
-use native.Mathlib.Omega.{arith}
 use lib.ListN.{length}
 use lib.Dec.{leb}
 use borrow.Author.Tests.{leb-true, le-leb, lt-leb, not-true, not-false}
@@ -13,6 +12,7 @@ use Rattle.checks.specs.declared.Checked.the-variants.{Passed, Refused}
 use Rattle.checks.specs.declared.Fault.the-variants.{NotHeld}
 use Rattle.checks.specs.Held.{Held}
 use Rattle.checks.specs.Checks.{holds, whenHeld}
+use Rattle.checks.proofs.Rows.{never}
 
 pub held-facts : (rows : List ℕ) (count : ℕ) → holds rows count ≡ true → Held rows count
 unfolding holds
@@ -53,19 +53,19 @@ module _ (rows : List ℕ) (count : ℕ) where
 
 -- a check that passed read a table that holds its rows, and found nothing
 module _ (rows : List ℕ) (count : ℕ) (found : Checked) (e : whenHeld rows count found ≡ Passed) where
-  pub passed-holds : holds rows count ≡ true
+  told : holds rows count ≡ true
   unfolding whenHeld
-  passed-holds = go (holds rows count) refl e
+  told = go (holds rows count) e
     where
-      go : (b : Bool) → holds rows count ≡ b → cond b found (Refused NotHeld 0) ≡ Passed → b ≡ true
-      go true q p = refl
-      go false q p = absurd (let z : _≡_ {A = ℕ} 0 1 = cc in omega arith)
+      go : (b : Bool) → cond b found (Refused NotHeld 0) ≡ Passed → b ≡ true
+      go true p = refl
+      go false p = never p
 
   pub passed-held : Held rows count
-  passed-held = held-facts rows count passed-holds
+  passed-held = held-facts rows count told
 
   pub passed-found : found ≡ Passed
   unfolding whenHeld
-  passed-found = rw passed-holds at e
+  passed-found = rw told at e
 
 pub ruleset answers = (holds-none, holds-many, holds-room, held-told, not-held, found-held)

@@ -5,7 +5,11 @@ use native.Mathlib.Omega.{arith}
 use Rattle.checks.specs.declared.Fault.{Fault}
 use Rattle.checks.specs.declared.Checked.{Checked}
 use Rattle.checks.specs.declared.Checked.the-variants.{Passed, Refused}
-use Rattle.checks.specs.Checks.{orElse, firstFrom}
+use Rattle.checks.specs.Checks.{andThen, firstFrom}
+
+-- a refusal does not pass
+pub never : {A : Type 0} {fault : Fault} {row : ℕ} → Refused fault row ≡ Passed → A
+never e = absurd (let z : _≡_ {A = ℕ} 0 1 = cc in omega arith)
 
 -- the loop has come to row i: the rows that are left give what all of them give
 pub record Checking (test : ℕ → Checked) (count i : ℕ) : Type 0 where
@@ -21,7 +25,7 @@ module _ {test : ℕ → Checked} {count i : ℕ} (w : Checking test count i) wh
   checking-done h = let z : count - i ≡ 0 = omega arith in sym (w .same ∙ rw z)
 
   module _ (h : i < count) where
-    step : firstFrom test count 0 ≡ orElse (test i) (firstFrom test (count - (i + 1)) (i + 1))
+    step : firstFrom test count 0 ≡ andThen (test i) (firstFrom test (count - (i + 1)) (i + 1))
     unfolding firstFrom
     step = let z : count - i ≡ suc (count - (i + 1)) = omega arith in w .same ∙ rw z
 
@@ -31,10 +35,10 @@ module _ {test : ℕ → Checked} {count i : ℕ} (w : Checking test count i) wh
     pub checking-next : test i ≡ Passed → Checking test count (i + 1)
     checking-next e = record { upto = omega arith; same = step ∙ rw e }
 
--- the first of two that refuses; neither does
-pub both-pass : (a b : Checked) → orElse a b ≡ Passed → (a ≡ Passed) × (b ≡ Passed)
+-- two checks that passed, one after the other
+pub both-pass : (a b : Checked) → andThen a b ≡ Passed → (a ≡ Passed) × (b ≡ Passed)
 both-pass Passed b e = (refl, e)
-both-pass (Refused fault row) b e = absurd (let z : _≡_ {A = ℕ} 0 1 = cc in omega arith)
+both-pass (Refused fault row) b e = never e
 
 all-from : (test : ℕ → Checked) (n i : ℕ) → firstFrom test n i ≡ Passed → (k : ℕ) → i ≤ k → k < i + n → test k ≡ Passed
 unfolding firstFrom
@@ -51,8 +55,11 @@ all-from test (suc n) i e k a b =
 pub all-pass : (test : ℕ → Checked) (count : ℕ) → firstFrom test count 0 ≡ Passed → (i : ℕ) → i < count → test i ≡ Passed
 all-pass test count e i h = all-from test count 0 e i (omega arith) (omega arith)
 
--- and one that passes at each row passes
-pub pass-all : (test : ℕ → Checked) (n i : ℕ) → ((k : ℕ) → i ≤ k → k < i + n → test k ≡ Passed) → firstFrom test n i ≡ Passed
+pass-from : (test : ℕ → Checked) (n i : ℕ) → ((k : ℕ) → i ≤ k → k < i + n → test k ≡ Passed) → firstFrom test n i ≡ Passed
 unfolding firstFrom
-pass-all test zero i t = refl
-pass-all test (suc n) i t = rw (t i (omega arith) (omega arith)) (pass-all test n (i + 1) (λ k a b. t k (omega arith) (omega arith)))
+pass-from test zero i t = refl
+pass-from test (suc n) i t = rw (t i (omega arith) (omega arith)) (pass-from test n (i + 1) (λ k a b. t k (omega arith) (omega arith)))
+
+-- and one that passes at each row passes
+pub pass-all : (test : ℕ → Checked) (count : ℕ) → ((i : ℕ) → i < count → test i ≡ Passed) → firstFrom test count 0 ≡ Passed
+pass-all test count t = pass-from test count 0 (λ k a b. t k (omega arith))

@@ -26,15 +26,15 @@ numberOf WrongChildren = 9
 unfoldable pub holds : List ℕ → ℕ → Bool
 holds rows count = leb 1 count && (leb count 2000 && leb (5 * count) (length rows))
 
--- the first of two checks that refuses
-abbrev pub orElse : Checked → Checked → Checked
-orElse Passed next = next
-orElse (Refused fault row) next = Refused fault row
+-- two checks, one after the other: the second is asked where the first passed
+abbrev pub andThen : Checked → Checked → Checked
+andThen Passed next = next
+andThen (Refused fault row) next = Refused fault row
 
 -- "in row order": the first refusal of the n rows from row i on
 unfoldable pub firstFrom : (ℕ → Checked) → ℕ → ℕ → Checked
 firstFrom test zero i = Passed
-firstFrom test (suc n) i = orElse (test i) (firstFrom test n (i + 1))
+firstFrom test (suc n) i = andThen (test i) (firstFrom test n (i + 1))
 
 -- what is found in a table that holds its rows; no other is read
 unfoldable pub whenHeld : List ℕ → ℕ → Checked → Checked
@@ -55,16 +55,18 @@ unfoldable pub endsBefore : List ℕ → ℕ → List ℕ
 endsBefore rows zero = []
 endsBefore rows (suc i) = endAt rows i ∷ endsBefore rows i
 
+-- those of a list of ends that are above i, in its order
 unfoldable pub above : ℕ → List ℕ → List ℕ
 above i [] = []
 above i (e ∷ es) = cond (ltb i e) (e ∷ above i es) (above i es)
 
 -- "the row it stands in: the last earlier row whose end is above this number". The ends above i of the rows before row i,
--- the last row's first, are those of the rows that row i stands in: the first one is the row it stands in.
+-- the last row's first: those of the rows that row i stands in. The first of them is the end of the row it stands in.
 unfoldable pub enclosing : List ℕ → ℕ → List ℕ
 enclosing rows i = above i (endsBefore rows i)
 
--- "7: wrong end": "Row 0's end is rows. Any other end is above its own row number and at most the end of the row it stands in"
+-- "7: wrong end": "Row 0's end is rows. Any other end is above its own row number and at most the end of the row it stands in".
+-- Row 0 is the row that nothing encloses; if its end is right, there is no other.
 unfoldable pub endFits : ℕ → ℕ → ℕ → List ℕ → Bool
 endFits count i end [] = eqb end count
 endFits count i end (e ∷ es) = ltb i end && leb end e
@@ -100,5 +102,6 @@ childrenAt rows i = cond (childrenFit rows i) Passed (Refused WrongChildren i)
 unfoldable pub rootAt : List ℕ → Checked
 rootAt rows = cond (inClass S (kindAt rows 0)) Passed (Refused WrongChildren 0)
 
+-- "7 and 8 in row order, 7 before 8; then 9 in row order". Only rows whose ends nest have children, so the ends come first.
 abbrev pub childrenOf : List ℕ → ℕ → Checked
-childrenOf rows count = whenHeld rows count (orElse (rootAt rows) (firstFrom (childrenAt rows) count 0))
+childrenOf rows count = andThen (endsOf rows count) (andThen (rootAt rows) (firstFrom (childrenAt rows) count 0))

@@ -1,4 +1,4 @@
--- What the checks ask of each other.
+-- The premise under which a check reads a table.
 use Prim.Native.Nat.{ℕ, _*_, _≤_}
 use mathlib.Core.List.{List}
 use lib.ListN.{length}

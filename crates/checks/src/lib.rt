@@ -6,11 +6,11 @@ ghost use lib.ListN.{length};
 ghost use Rattle.table.specs.Rows.{kindAt, endAt, tree, Nested};
 ghost use Rattle.kinds.specs.Kinds.{Item, entry, fits};
 ghost use Rattle.kinds.specs.Numbers.{itemsNumber};
-ghost use Rattle.checks.specs.Checks.{numberOf, holds, orElse, firstFrom, fieldsAt, fieldsOf, endFits, endsAt, endsOf, kindsOf, childrenAt, childrenOf};
+ghost use Rattle.checks.specs.Checks.{numberOf, holds, firstFrom, fieldsAt, fieldsOf, endFits, endsAt, endsOf, kindsOf, childrenAt, childrenOf};
 ghost use Rattle.checks.specs.Opened.{lastFirst, StillOpen};
 ghost use Rattle.checks.specs.Held.{Held};
 
-// What is wrong with a row.
+// What a check refuses.
 pub enum Fault {
     NotHeld,
     UnknownKind,
@@ -60,7 +60,7 @@ fn fields_held(rows: &[u32], count: usize, names: usize) -> Checked
     let mut i = 0;
     while i < count {
         let k = table::kind_at(rows, i);
-        if 65 < k {
+        if 66 <= k {
             return Checked::Refused(Fault::UnknownKind, i);
         }
         let kind = entries[k];
@@ -105,10 +105,10 @@ fn end_fits(kept: &[usize], depth: usize, count: usize, row: usize, end: usize) 
     if depth == 0 {
         return end == count;
     }
-    if end <= row {
-        return false;
+    if row < end {
+        return end <= kept[depth - 1];
     }
-    end <= kept[depth - 1]
+    false
 }
 
 fn ends_held(rows: &[u32], count: usize) -> Checked
@@ -124,12 +124,13 @@ fn ends_held(rows: &[u32], count: usize) -> Checked
         if !end_fits(&kept, d, count, row, end) {
             return Checked::Refused(Fault::WrongEnd, row);
         }
-        if 100 <= d {
+        if d < 100 {
+            kept[d] = end;
+            depth = d + 1;
+            row += 1;
+        } else {
             return Checked::Refused(Fault::TooDeep, row);
         }
-        kept[d] = end;
-        depth = d + 1;
-        row += 1;
     }
     Checked::Passed
 }
@@ -149,13 +150,10 @@ fn all_repeat(items: usize) -> bool
     ensures { λ r. ⌜ ((left : List Item) → items ≡ itemsNumber left → r ≡ fits left []) ⌝ }
 {
     let mut left = items;
-    while 0 < left {
-        if !kinds::repeats_first(left) {
-            return false;
-        }
+    while kinds::repeats_first(left) {
         left = kinds::rest_first(left);
     }
-    true
+    left == 0
 }
 
 // Whether the children of row i, one of the rows up to `to`, are those of its kind, whose items are given.
@@ -189,7 +187,7 @@ fn children_nested(rows: &[u32], count: usize) -> Checked
     let mut i = 0;
     while i < count {
         let k = table::kind_at(rows, i);
-        if 65 < k {
+        if 66 <= k {
             return Checked::Refused(Fault::WrongChildren, i);
         }
         let kind = entries[k];
@@ -203,7 +201,7 @@ fn children_nested(rows: &[u32], count: usize) -> Checked
 
 // Children: refusal 9. Only rows whose ends nest have children, so ends and depth are checked before: 7, 8, then 9.
 pub fn children(rows: &[u32], count: usize) -> Checked
-    ensures { λ r. ⌜ r ≡ orElse (endsOf (now (rows .entry)) count) (childrenOf (now (rows .entry)) count) ⌝ }
+    ensures { λ r. ⌜ r ≡ childrenOf (now (rows .entry)) count ⌝ }
 {
     let r = ends(rows, count);
     let Checked::Passed = r else {

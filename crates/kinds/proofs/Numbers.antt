@@ -29,7 +29,7 @@ below-one n = go (eqb n 0) refl
         least (suc m) d = omega arith
 
 -- the count of side numbers, and the side numbers
-pub side-number : (s : Sides) (names side : ℕ) → sideBelow (sidesNumber s) names side ≡ sideFits s names side
+side-number : (s : Sides) (names side : ℕ) → sideBelow (sidesNumber s) names side ≡ sideFits s names side
 unfolding sideBelow sidesNumber sideFits
 side-number zero-only names side = below-one side
 side-number (up-to n) names side = rw (eqb·suc-zero n) (leb·suc-suc side n)
@@ -167,6 +167,16 @@ any-default (x ∷ l) zero d e h = refl
 any-default (x ∷ l) (suc k) d e h = any-default l k d e (omega arith)
 
 -- an entry of the code's table holds the numbers of the list's
-pub kind-numbers : (entries : List Kind) (k : ℕ) (d : Kind) → entries ≡ map numbers kinds → k ≤ 65 → getD entries k d ≡ numbers (entry k)
+kind-numbers : (entries : List Kind) (k : ℕ) (d : Kind) → entries ≡ map numbers kinds → k < 66 → getD entries k d ≡ numbers (entry k)
 unfolding entry
 kind-numbers entries k d e h = rw e (any-default (map numbers kinds) k d (numbers noEntry) (simp (length-map, kinds-count) (omega arith)) ∙ List·getD-map numbers kinds k noEntry)
+
+-- what its numbers say: the side numbers, and the items
+module _ (entries : List Kind) (k : ℕ) (d : Kind) (t : entries ≡ map numbers kinds) (u : k < 66) where
+  pub entry-sides : (names side : ℕ) → sideBelow (getD entries k d .sides) names side ≡ sideFits (entry k .sides) names side
+  unfolding numbers
+  entry-sides names side = rw (kind-numbers entries k d t u) (side-number (entry k .sides) names side)
+
+  pub entry-items : getD entries k d .children ≡ itemsNumber (entry k .children)
+  unfolding numbers
+  entry-items = rw (kind-numbers entries k d t u)

@@ -4,7 +4,8 @@ use mathlib.Core.Path.{_≡_, refl, sym, _∙_}
 use mathlib.Core.Bool.{Bool, true, false, cond}
 use mathlib.Core.List.{List, [], _∷_}
 use native.Mathlib.Omega.{arith}
-use borrow.Author.Tests.{leb-true}
+use lib.Dec.{eqb}
+use borrow.Author.Tests.{leb-true, ne-eqb}
 use Rattle.kinds.specs.Kinds.{Item, takes, fits}
 use Rattle.kinds.specs.Numbers.{itemsNumber, takesFirst, repeatsFirst, restFirst, afterFirst}
 use Rattle.kinds.proofs.Below.{true-not-false}
@@ -69,13 +70,8 @@ module _ {left k : ℕ} {ks : List ℕ} {whole : Bool} (w : Left left (k ∷ ks)
   pub left-refused : takesFirst left k ≡ false → repeatsFirst left ≡ false → false ≡ whole
   left-refused t r = refused left k ks whole (w .items) (w .number) (w .same) t r
 
--- no child is left
+-- no child is left: an item that may repeat is passed, and any other is missed
 module _ (left : ℕ) (whole : Bool) where
-  ended : (items : List Item) → left ≡ itemsNumber items → whole ≡ fits items [] → left ≤ 0 → true ≡ whole
-  unfolding fits
-  ended [] e s h = sym s
-  ended (i ∷ items) e s h = absurd (omega (arith, some-number i items))
-
   passed : (items : List Item) → left ≡ itemsNumber items → whole ≡ fits items [] → repeatsFirst left ≡ true → Left (restFirst left) [] whole
   unfolding allRepeat itemsNumber
   passed [] e s r = repeats-never left e r
@@ -83,22 +79,20 @@ module _ (left : ℕ) (whole : Bool) where
       let q : i .may-repeat ≡ true = sym (repeats-is left i items e) ∙ r in
       record { items = items; number = rest-is left i items e; same = s ∙ fits-none (i ∷ items) ∙ rw q (sym (fits-none items)) }
 
-  missed : (items : List Item) → left ≡ itemsNumber items → whole ≡ fits items [] → 0 < left → repeatsFirst left ≡ false → false ≡ whole
-  unfolding allRepeat itemsNumber
-  missed [] e s h r = absurd (omega arith)
-  missed (i ∷ items) e s h r =
+  ended : (items : List Item) → left ≡ itemsNumber items → whole ≡ fits items [] → repeatsFirst left ≡ false → eqb left 0 ≡ whole
+  unfolding fits itemsNumber allRepeat
+  ended [] e s r = rw e (sym s)
+  ended (i ∷ items) e s r =
       let q : i .may-repeat ≡ false = sym (repeats-is left i items e) ∙ r in
-      sym (s ∙ fits-none (i ∷ items) ∙ rw q)
+      let n : eqb left 0 ≡ false = ne-eqb left 0 (λ z. omega (arith, e, some-number i items)) in
+      n ∙ sym (s ∙ fits-none (i ∷ items) ∙ rw q)
 
 module _ {left : ℕ} {whole : Bool} (w : Left left [] whole) where
-  pub left-ended : left ≤ 0 → true ≡ whole
-  left-ended h = ended left whole (w .items) (w .number) (w .same) h
-
   pub left-passed : repeatsFirst left ≡ true → Left (restFirst left) [] whole
   left-passed r = passed left whole (w .items) (w .number) (w .same) r
 
-  pub left-missed : 0 < left → repeatsFirst left ≡ false → false ≡ whole
-  left-missed h r = missed left whole (w .items) (w .number) (w .same) h r
+  pub left-ended : repeatsFirst left ≡ false → eqb left 0 ≡ whole
+  left-ended r = ended left whole (w .items) (w .number) (w .same) r
 
 -- measures: what is left becomes no more, and less without a first item
 pub after-less : (left : ℕ) → afterFirst left ≤ left
@@ -112,7 +106,3 @@ after-less left = go (repeatsFirst left)
 pub rest-less : (left : ℕ) → repeatsFirst left ≡ true → restFirst left < left
 unfolding repeatsFirst restFirst
 rest-less left r = omega (arith, leb-true 32768 (left % 65536) r)
-
-pub rest-falls : (left : ℕ) → 0 < left → restFirst left < left
-unfolding restFirst
-rest-falls left h = omega arith

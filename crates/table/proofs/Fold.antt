@@ -1,5 +1,8 @@
 -- The laws of every fold over the rows of a range.
-use mathlib.Core.Path.{_≡_, refl}
+use mathlib.Core.Path.{_≡_, refl, _∙_}
+use mathlib.Core.Bool.{Bool, true, false}
+use lib.Dec.{ltb}
+use borrow.Author.Tests.{ltb-true}
 use mathlib.Core.List.{List, [], _∷_, _++_}
 use Prim.Native.Nat.{ℕ, zero, suc, _+_, _≤_, _<_}
 use Rattle.table.specs.Rows.{kindAt, sideAt, loAt, hiAt, endAt, Forest, nil, node, tree, Nested, append, rest, nextOf}
@@ -29,6 +32,14 @@ module _ {A : Type 0} (alg : Alg A) where
   -- a row's attribute does not depend on the rows after it
   pub fold-alone : {rows : List ℕ} {from to : ℕ} (d : A) → Nested rows from to → from < to → nth d 0 (fold alg (tree rows from (endAt rows from))) ≡ nth d 0 (fold alg (tree rows from to))
   fold-alone d g h = rw (fold-some (alone g h) (ends-after g h), fold-some g h)
+
+  -- nor does that of a first row that there may be, in the range up to the next one
+  pub fold-first : {rows : List ℕ} {from to n : ℕ} (d : A) → Nested rows from to → n ≡ nextOf rows from to → nth d 0 (fold alg (tree rows from n)) ≡ nth d 0 (fold alg (tree rows from to))
+  fold-first {rows} {from} {to} {n} d g e = go (ltb from to) refl
+    where
+      go : (b : Bool) → ltb from to ≡ b → nth d 0 (fold alg (tree rows from n)) ≡ nth d 0 (fold alg (tree rows from to))
+      go true q = let v : n ≡ endAt rows from = e ∙ rw q in rw v (fold-alone d g (ltb-true from to q))
+      go false q = let v : n ≡ to = e ∙ rw q in rw v
 
   fold-rest : (f : Forest) → fold alg (rest f) ≡ tail (fold alg f)
   unfolding fold rest

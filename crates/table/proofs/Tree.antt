@@ -7,7 +7,7 @@ use native.Mathlib.Omega.{arith}
 use lib.Dec.{ltb}
 use borrow.Author.Tests.{ltb-true, ltb-false, lt-ltb, le-ltb}
 use Rattle.table.specs.Rows.{kindAt, sideAt, loAt, hiAt, endAt, nil, node, treeBy, tree, Nested, append, rest, nextOf}
-use Rattle.table.proofs.Ranges.{later, ends-after, ends-within, others, children}
+use Rattle.table.proofs.Ranges.{later, ends-after, ends-within, others, alone, children}
 
 by-none : (n : ℕ) (rows : List ℕ) (from to : ℕ) → to ≤ from → treeBy n rows from to ≡ nil
 unfolding treeBy
@@ -56,6 +56,14 @@ tree-some {rows} {from} {to} g h =
     by-any (to - from) (suc (to - from)) g (omega arith) (omega arith)
     ∙ by-some (to - from) rows from to h
     ∙ rw (by-any (to - from) (endAt rows from - (from + 1)) (children g h) (omega arith) (omega arith), by-any (to - from) (to - endAt rows from) (others g h) (omega arith) (omega arith))
+
+-- a row alone, with its descendants
+pub tree-alone : {rows : List ℕ} {from to : ℕ}
+    → Nested rows from to
+    → from < to
+    → tree rows from (endAt rows from)
+    ≡ node (kindAt rows from) (sideAt rows from) (loAt rows from) (hiAt rows from) (tree rows (from + 1) (endAt rows from)) nil
+tree-alone {rows} {from} g h = tree-some (alone g h) (ends-after g h) ∙ rw (tree-none rows (endAt rows from) (endAt rows from) (omega arith))
 
 cut-by : (n : ℕ) {rows : List ℕ} {a b c : ℕ} → b - a ≤ n → Nested rows a b → Nested rows a c → b ≤ c → tree rows a c ≡ append (tree rows a b) (tree rows b c)
 unfolding append

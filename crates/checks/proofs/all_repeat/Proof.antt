@@ -17,7 +17,6 @@ all-repeat-spec =
     μ-loop
     (λ c. search ending)
     (λ c κs. search needs)
-    (λ c. search ending)
     (λ c κs. search needs)
     (λ c. search ending)
     (λ c. search ending)

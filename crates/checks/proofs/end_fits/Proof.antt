@@ -8,8 +8,8 @@ end-fits-spec =
     tie.close
     (tie.spec
     (λ c. search fitting)
+    (λ c. search needs)
+    (λ c. search needs)
+    (λ c. search needs)
     (λ c. search fitting)
-    (λ c. search needs)
-    (λ c. search needs)
-    (λ c. search needs)
     (λ c. search fitting))

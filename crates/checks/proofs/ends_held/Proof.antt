@@ -10,14 +10,6 @@ Inv-loop rows count kept₀ depth₀ row₀ kept depth row = Scanning rows count
 abbrev μ-loop : tie.MeasureT-loop
 μ-loop rows count kept₀ depth₀ row₀ kept depth row = count - row
 
--- the array makes `search` give up here, so the facts are named
-loop-again : tie.Need-loop-again Inv-loop μ-loop
-loop-again c =
-    let ended = c .before .before in
-    let opened = ended .before .before .before in
-    let inside = opened .before .before in
-    scanning-next (inside .before .loop .inv) (inside .loop-test .taken) (opened .still-open .ensures) (ended .before .before .end-at .ensures) (ended .end-fits .ensures) (c .before .if1 .left) (c .if2 .left)
-
 pub ends-held-spec : {M : Type 1} → statement M
 ends-held-spec =
     tie.close
@@ -31,11 +23,16 @@ ends-held-spec =
     (λ c. search needs)
     (λ c κs. search needs)
     (λ c. search scanning)
+    (λ c. search needs)
+    (λ c. search needs)
+    (λ c. search needs)
+    (λ c. search needs)
+    (λ c. search needs)
+    -- the array makes `search` give up here, so the facts are named
+    (λ c.
+    let ended = c .before .before in
+    let opened = ended .before .before .before in
+    let inside = opened .before .before in
+    scanning-next (inside .before .loop .inv) (inside .loop-test .taken) (opened .still-open .ensures) (ended .before .before .end-at .ensures) (ended .end-fits .ensures) (c .before .if1 .left) (c .if2 .taken))
     (λ c. search scanning)
-    (λ c. search needs)
-    (λ c. search needs)
-    (λ c. search needs)
-    (λ c. search needs)
-    (λ c. search needs)
-    loop-again
     (λ c. search scanning))
