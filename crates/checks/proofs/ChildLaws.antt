@@ -36,7 +36,7 @@ pub record Fitting (rows : List ℕ) (end child left : ℕ) (whole : Bool) : Typ
 pub fitting-start : (rows : List ℕ) (i to end items : ℕ)
     → RowEnd rows i to end
     → items ≡ itemsNumber (entry (kindAt rows i) .children)
-    → Fitting rows end (i + 1) items (fits (entry (kindAt rows i) .children) (kindsOf (tree rows (i + 1) (endAt rows i))))
+    → Fitting rows end (i + 1) items (childrenFit rows i)
 fitting-start rows i to end items e n = record {
   nested = e .children;
   items = record { items = entry (kindAt rows i) .children; number = n; same = rw (e .is) };
@@ -91,12 +91,12 @@ pub ruleset ending = (ending-start, ending-done, ending-next, ending-falls)
 -- the loop over the rows
 module _ (rows : List ℕ) (count i k : ℕ) (w : Checking (childrenAt rows) count i) (h : i < count) (e : k ≡ kindAt rows i) where
   pub children-unknown : 66 ≤ k → Refused WrongChildren i ≡ firstFrom (childrenAt rows) count 0
-  unfolding childrenAt childrenFit isKind
+  unfolding childrenAt isKind
   children-unknown u = checking-stop w h WrongChildren i (rw (← e, le-ltb k 66 u))
 
-  module _ (r : Bool) (u : k < 66) (q : r ≡ fits (entry (kindAt rows i) .children) (kindsOf (tree rows (i + 1) (endAt rows i)))) where
+  module _ (r : Bool) (u : k < 66) (q : r ≡ childrenFit rows i) where
     told : childrenAt rows i ≡ cond r Passed (Refused WrongChildren i)
-    unfolding childrenAt childrenFit isKind
+    unfolding childrenAt isKind
     told = rw (lt-ltb (kindAt rows i) 66 (omega arith), ← q)
 
     pub children-wrong : not r ≡ true → Refused WrongChildren i ≡ firstFrom (childrenAt rows) count 0

@@ -1,19 +1,19 @@
 -- A table passes the check of fields, or that of children, exactly where it is so at every row. (Of ends: Nest.)
-use Prim.Native.Nat.{ℕ, _+_, _<_}
+use Prim.Native.Nat.{ℕ, _<_}
 use mathlib.Core.Path.{_≡_, refl, sym, _∙_}
 use mathlib.Core.Bool.{Bool, true, false, cond}
 use mathlib.Core.List.{List}
 use lib.Dec.{ltb}
 use borrow.Author.Tests.{ltb-true, lt-ltb}
-use Rattle.table.specs.Rows.{kindAt, sideAt, endAt, tree}
-use Rattle.kinds.specs.Kinds.{S, name-number, entry, isKind, inClass, sideFits, fits}
+use Rattle.table.specs.Rows.{kindAt, sideAt}
+use Rattle.kinds.specs.Kinds.{S, name-number, entry, isKind, inClass, sideFits}
 use Rattle.kinds.proofs.Below.{both-true}
 use Rattle.checks.specs.declared.Fault.{Fault}
 use Rattle.checks.specs.declared.Fault.the-variants.{UnknownKind, WrongSide, WrongChildren}
 use Rattle.checks.specs.declared.Checked.{Checked}
 use Rattle.checks.specs.declared.Checked.the-variants.{Passed, Refused}
 use Rattle.checks.specs.Held.{Held}
-use Rattle.checks.specs.Checks.{whenHeld, firstFrom, fieldsAt, fieldsOf, endsOf, kindsOf, childrenFit, childrenAt, rootAt, childrenOf}
+use Rattle.checks.specs.Checks.{whenHeld, firstFrom, fieldsAt, fieldsOf, endsOf, childrenFit, childrenAt, rootAt, childrenOf}
 use Rattle.checks.proofs.Rows.{never, both-pass, all-pass, pass-all}
 use Rattle.checks.proofs.Room.{holds-true, passed-held, passed-found}
 use Rattle.checks.proofs.Nest.{RightEnds, ends-passed, ends-pass}
@@ -59,10 +59,10 @@ pub record RightChildren (rows : List ℕ) (count : ℕ) : Type 0 where
   pub ends : RightEnds rows count
   pub statement : inClass S (kindAt rows 0) ≡ true
   pub known : (i : ℕ) → i < count → isKind (kindAt rows i) ≡ true
-  pub fitting : (i : ℕ) → i < count → fits (entry (kindAt rows i) .children) (kindsOf (tree rows (i + 1) (endAt rows i))) ≡ true
+  pub fitting : (i : ℕ) → i < count → childrenFit rows i ≡ true
 
-children-at : (rows : List ℕ) (i : ℕ) → childrenAt rows i ≡ Passed → (isKind (kindAt rows i) ≡ true) × (fits (entry (kindAt rows i) .children) (kindsOf (tree rows (i + 1) (endAt rows i))) ≡ true)
-unfolding childrenAt childrenFit
+children-at : (rows : List ℕ) (i : ℕ) → childrenAt rows i ≡ Passed → (isKind (kindAt rows i) ≡ true) × (childrenFit rows i ≡ true)
+unfolding childrenAt
 children-at rows i e = both-true (isKind (kindAt rows i)) _ (test-passed _ WrongChildren i e)
 
 pub children-passed : (rows : List ℕ) (count : ℕ) (r : Checked) → r ≡ childrenOf rows count → r ≡ Passed → RightChildren rows count
@@ -78,5 +78,5 @@ children-passed rows count r q p =
     }
 
 pub children-pass : (rows : List ℕ) (count : ℕ) → RightChildren rows count → childrenOf rows count ≡ Passed
-unfolding rootAt childrenAt childrenFit
+unfolding rootAt childrenAt
 children-pass rows count w = rw (ends-pass rows count (w .ends), w .statement) (pass-all (childrenAt rows) count (λ i h. rw (w .known i h, w .fitting i h)))

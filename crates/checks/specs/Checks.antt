@@ -92,12 +92,13 @@ kindAlone k s lo hi cs ks = k
 abbrev pub kindsOf : Forest → List ℕ
 kindsOf = fold kindAlone
 
--- "9: children that don't fit the kind; row 0 not a statement"
-unfoldable pub childrenFit : List ℕ → ℕ → Bool
-childrenFit rows i = isKind (kindAt rows i) && fits (entry (kindAt rows i) .children) (kindsOf (tree rows (i + 1) (endAt rows i)))
+-- whether the children of row i are those of its kind
+abbrev pub childrenFit : List ℕ → ℕ → Bool
+childrenFit rows i = fits (entry (kindAt rows i) .children) (kindsOf (tree rows (i + 1) (endAt rows i)))
 
+-- "9: children that don't fit the kind; row 0 not a statement". A kind that is not in the table has none that fit.
 unfoldable pub childrenAt : List ℕ → ℕ → Checked
-childrenAt rows i = cond (childrenFit rows i) Passed (Refused WrongChildren i)
+childrenAt rows i = cond (isKind (kindAt rows i) && childrenFit rows i) Passed (Refused WrongChildren i)
 
 unfoldable pub rootAt : List ℕ → Checked
 rootAt rows = cond (inClass S (kindAt rows 0)) Passed (Refused WrongChildren 0)

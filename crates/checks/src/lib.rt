@@ -1,12 +1,12 @@
 // The checks of a lent row table. None of them asks anything of the caller: a table too short for its rows is answered too.
 ghost use mathlib.Core.Path.{_≡_};
-ghost use Prim.Native.Nat.{_+_, _<_, _≤_};
+ghost use Prim.Native.Nat.{_<_, _≤_};
 ghost use mathlib.Core.List.{List, []};
 ghost use lib.ListN.{length};
-ghost use Rattle.table.specs.Rows.{kindAt, endAt, tree, Nested};
+ghost use Rattle.table.specs.Rows.{kindAt, Nested};
 ghost use Rattle.kinds.specs.Kinds.{Item, entry, fits};
 ghost use Rattle.kinds.specs.Numbers.{itemsNumber};
-ghost use Rattle.checks.specs.Checks.{numberOf, holds, firstFrom, fieldsAt, fieldsOf, endFits, endsAt, endsOf, kindsOf, childrenAt, childrenOf};
+ghost use Rattle.checks.specs.Checks.{numberOf, holds, firstFrom, fieldsAt, fieldsOf, endFits, endsAt, endsOf, childrenFit, childrenAt, childrenOf};
 ghost use Rattle.checks.specs.Opened.{lastFirst, StillOpen};
 ghost use Rattle.checks.specs.Held.{Held};
 
@@ -159,7 +159,7 @@ fn all_repeat(items: usize) -> bool
 // Whether the children of row i, one of the rows up to `to`, are those of its kind, whose items are given.
 fn children_fit(rows: &[u32], i: usize, to: usize, items: usize) -> bool
     requires { ⌜ Nested (now rows) i to × ((i < to) × (items ≡ itemsNumber (entry (kindAt (now rows) i) .children))) ⌝ }
-    ensures { λ r. ⌜ r ≡ fits (entry (kindAt (now (rows .entry)) i) .children) (kindsOf (tree (now (rows .entry)) (i + 1) (endAt (now (rows .entry)) i))) ⌝ }
+    ensures { λ r. ⌜ r ≡ childrenFit (now (rows .entry)) i ⌝ }
 {
     let end = table::row_end(rows, i, to);
     let mut left = items;

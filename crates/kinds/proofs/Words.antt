@@ -95,10 +95,21 @@ hit n w (x ∷ es) j e = go (same w (x .word)) refl (λ q. hit (suc n) w es j q)
     go true q more = let f : Is n ≡ Is j = rw q at e in let m : n ≡ j = cc in record { i = 0; within = omega arith; at = omega arith; word = same-is w (x .word) q }
     go false q more = let h = more (rw q at e) in record { i = suc (h .i); within = omega (arith, h .within); at = omega (arith, h .at); word = h .word }
 
--- a kind that is found is a number of the table
-pub found-below : (s : List ℕ) (k : ℕ) → kindOf s ≡ Is k → k < 66
-unfolding kindOf
-found-below s k e = let h = hit 0 s kinds k e in omega (arith, h .within, h .at, kinds-count)
+-- a kind that is found is a number of the table, and the byte string is its word; and each kind's word is found
+module _ (s : List ℕ) (r : Found) (k : ℕ) (q : r ≡ kindOf s) (e : r ≡ Is k) where
+  found : Hit s kinds 0 k
+  unfolding kindOf
+  found = hit 0 s kinds k (sym q ∙ e)
+
+  pub found-below : k < 66
+  found-below = omega (arith, found .within, found .at, kinds-count)
+
+  pub found-word : s ≡ entry k .word
+  unfolding entry
+  found-word = let z : k ≡ found .i = omega (arith, found .at) in rw z (found .word)
+
+pub word-found : (k : ℕ) → k < 66 → kindOf (entry k .word) ≡ Is k
+word-found k h = good-at k h .found
 
 -- a byte string whose key is no kind's is no kind's word
 find-unknown : (s : List ℕ) → ((k : ℕ) → k < 66 → keyOf s ≡ key (wordOf k) → ⊥) → Unknown ≡ kindOf s

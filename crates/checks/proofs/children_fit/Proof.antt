@@ -1,14 +1,12 @@
 use borrow.Author.Needs.{needs}
 use Prim.Native.Nat.{_+_, _-_}
-use Rattle.table.specs.Rows.{kindAt, endAt, tree}
-use Rattle.kinds.specs.Kinds.{entry, fits}
-use Rattle.checks.specs.Checks.{kindsOf}
+use Rattle.checks.specs.Checks.{childrenFit}
 use Rattle.checks.proofs.ChildLaws.{Fitting, fitting}
 use Rattle.checks.proofs.children_fit.Statement.{statement}
 use Rattle.checks.proofs.children_fit.Tie as tie
 
 abbrev Inv-loop : tie.InvT-loop
-Inv-loop rows i to items end left₀ child₀ left child = Fitting rows end child left (fits (entry (kindAt rows i) .children) (kindsOf (tree rows (i + 1) (endAt rows i))))
+Inv-loop rows i to items end left₀ child₀ left child = Fitting rows end child left (childrenFit rows i)
 
 abbrev μ-loop : tie.MeasureT-loop
 μ-loop rows i to items end left₀ child₀ left child = (end - child) + left
