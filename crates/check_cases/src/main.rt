@@ -1,6 +1,7 @@
-// The checks on tables: one line out for each line of standard input, `title|names|kind side end;kind side end;..`: what the
-// three checks answer, as document 01's number and the row, or 0 where a check passed. A line without `|` is a word: its kind
-// number, 66 where it is none. Then the limits, on tables that are made here.
+// The checks on tables: one line out for each line of standard input, `title|count|numbers|names|kind side end;kind side end;..`,
+// for a table of so many numbers with these rows first and zeros after them: what the three checks answer, as document 01's
+// number and the row, or 0 where a check passed. Rows `*nested` or `*flat` stand for so many blocks as the count says, each in the
+// one before it or all in the first. A line without `|` is a word: its kind number, 66 where it is none.
 use checks::Checked;
 use kinds::Found;
 use libc::STDIN_FILENO;
@@ -128,8 +129,8 @@ fn row_of(rows: &mut [u32], i: usize, text: &[u8]) {
     );
 }
 
-// Sets the rows that a text gives, and tells how many.
-fn fill(rows: &mut [u32], text: &[u8]) -> usize {
+// Sets the rows that a text gives.
+fn fill(rows: &mut [u32], text: &[u8]) {
     let mut at = 0;
     let mut i = 0;
     while at < text.len() {
@@ -138,18 +139,44 @@ fn fill(rows: &mut [u32], text: &[u8]) -> usize {
         row_of(rows, i, part);
         i += 1;
         if text.len() <= at + n {
-            return i;
+            return;
         }
         at = at + n + 1;
     }
-    i
 }
 
-fn one_case(title: &[u8], rest: &[u8]) {
-    let mut space = [0u32; 1000];
+// So many blocks: each in the one before it, or all in the first.
+fn blocks(rows: &mut [u32], count: u32, nested: bool) {
+    let mut i: u32 = 0;
+    while i < count {
+        let end = if nested { count } else { i + 1 };
+        row(rows, table::wide(i), 20, 0, end);
+        i += 1;
+    }
+    row(rows, 0, 20, 0, count);
+}
+
+fn rows_of(rows: &mut [u32], count: u32, text: &[u8]) {
+    if find(text, b'*') < text.len() {
+        blocks(rows, count, find(text, b'n') < text.len());
+    } else {
+        fill(rows, text);
+    }
+}
+
+fn one_case(title: &[u8], text: &[u8]) {
+    let mut space = [0u32; 10005];
     let rows: &mut [u32] = &mut space;
-    let count = fill(rows, after(rest, b'|'));
-    report(title, rows, count, table::wide(decimal(before(rest, b'|'))));
+    let count = decimal(before(text, b'|'));
+    let rest = after(text, b'|');
+    let numbers = table::wide(decimal(before(rest, b'|')));
+    let named = after(rest, b'|');
+    let names = table::wide(decimal(before(named, b'|')));
+    rows_of(rows, count, after(named, b'|'));
+    let shared = &rows[..];
+    if numbers <= shared.len() {
+        report(title, &shared[0..numbers], table::wide(count), names);
+    }
 }
 
 fn line(text: &[u8]) {
@@ -176,62 +203,8 @@ fn lines(text: &[u8]) {
     }
 }
 
-// So many blocks: each in the one before it, or all in the first.
-fn blocks(rows: &mut [u32], count: u32, nested: bool) {
-    let mut i: u32 = 0;
-    while i < count {
-        let end = if nested { count } else { i + 1 };
-        row(rows, table::wide(i), 20, 0, end);
-        i += 1;
-    }
-    row(rows, 0, 20, 0, count);
-}
-
-fn depths() {
-    let mut space = [0u32; 600];
-    let t: &mut [u32] = &mut space;
-    blocks(t, 100, true);
-    report(b"depth 100", t, 100, 1);
-    blocks(t, 101, true);
-    report(b"depth 101", t, 101, 1);
-    row(t, 100, 20, 0, 102);
-    report(b"7 before 8 on one row", t, 101, 1);
-    blocks(t, 103, true);
-    row(t, 101, 20, 0, 101);
-    report(b"8 in a row before 7", t, 103, 1);
-}
-
-fn sizes() {
-    let mut space = [0u32; 10005];
-    let t: &mut [u32] = &mut space;
-    blocks(t, 2001, false);
-    report(b"2,001 rows", t, 2001, 1);
-    blocks(t, 2000, false);
-    report(b"2,000 rows", t, 2000, 1);
-    report(b"2,000 rows in a table exactly full", &t[0..10000], 2000, 1);
-    report(
-        b"2,000 rows in a table one number short",
-        &t[0..9999],
-        2000,
-        1,
-    );
-    report(b"one row in a table of four numbers", &t[0..4], 1, 1);
-    report(b"no rows", t, 0, 1);
-    report(b"a table of no numbers", &t[0..0], 1, 1);
-    report(
-        b"18,446,744,073,709,551,615 rows",
-        t,
-        18446744073709551615,
-        1,
-    );
-    row(t, 1999, 0, 0, 2000);
-    report(b"the last of 2,000 rows is no statement", t, 2000, 1);
-}
-
 fn main() {
     let mut space = io::large_buffer();
     let n = io::read_full(STDIN_FILENO, &mut space);
     lines(&space[..n]);
-    depths();
-    sizes();
 }

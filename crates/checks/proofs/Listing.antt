@@ -5,7 +5,7 @@ use mathlib.Core.Path.{_≡_, refl}
 use mathlib.Core.List.{List, [], _∷_}
 use Rattle.table.specs.Rows.{Forest, nil, node, tree, treeBy}
 use Rattle.table.specs.Fold.{fold}
-use Rattle.kinds.specs.Kinds.{kinds, entry, isKind, inClass, classNumber, sideFits, takes, once, many, fits}
+use Rattle.kinds.specs.Kinds.{kinds, entry, isKind, inClass, ofClass, classNumber, sideFits, takes, once, many, fits}
 use Rattle.checks.specs.declared.Checked.the-variants.{Passed, Refused}
 use Rattle.checks.specs.declared.Fault.the-variants.{WrongSide}
 use Rattle.checks.specs.Checks.{holds, whenHeld, firstFrom, fieldsAt, fieldsOf, endsBefore, above, enclosing, endFits, depthAt, endsAt, kindAlone, childrenAt, rootAt, childrenOf}
@@ -41,5 +41,5 @@ pub record Listing : Type 0 where
   pub one-name : fieldsOf rows 9 1 ≡ Refused WrongSide 5
 
 pub listing : Listing
-unfolding tree treeBy fold kinds entry isKind inClass classNumber sideFits takes once many fits holds whenHeld firstFrom fieldsAt endsBefore above enclosing endFits depthAt endsAt kindAlone childrenAt rootAt
+unfolding tree treeBy fold kinds entry isKind inClass ofClass classNumber sideFits takes once many fits holds whenHeld firstFrom fieldsAt endsBefore above enclosing endFits depthAt endsAt kindAlone childrenAt rootAt
 listing = record { tree = refl; fields = refl; children = refl; one-name = refl }

@@ -6,11 +6,11 @@ use mathlib.Core.List.{List, [], _∷_, map}
 use native.Mathlib.Omega.{arith}
 use lib.ListN.{length, getD, length-map, List·getD-map}
 use lib.Dec.{eqb, leb, ltb, leb·suc-suc, eqb·suc-zero}
-use borrow.Author.Tests.{ltb-true, ltb-false, le-ltb, le-leb, lt-leb, eqb-true, eqb-false}
+use borrow.Author.Tests.{ltb-true, ltb-false, le-ltb, le-leb, lt-leb, leb-true, eqb-true, eqb-false}
 use Rattle.kinds.specs.declared.Kind.{Kind}
-use Rattle.kinds.specs.Kinds.{Class, absent, path, seg, delay, intra, star-or-list, event, arm, decl, S, E, L, Sides, zero-only, up-to, name-number, Item, kinds, noEntry, entry, classNumber, isKind, inClass, sideFits, takes}
-use Rattle.kinds.specs.Numbers.{sidesNumber, sideBelow, range, bit, itemNumber, itemsNumber, ofFirst, takesFirst, repeatsFirst, restFirst, numbers}
-use Rattle.kinds.proofs.Below.{true-not-false, and-false, everyBelow, below}
+use Rattle.kinds.specs.Kinds.{Class, absent, path, seg, delay, intra, star-or-list, event, arm, decl, S, E, L, Sides, zero-only, up-to, name-number, Item, kinds, noEntry, entry, classNumber, ofClass, isKind, inClass, sideFits, takes}
+use Rattle.kinds.specs.Numbers.{sidesNumber, sideBelow, before, amount, firstOf, pastOf, bit, itemNumber, itemsNumber, ofFirst, takesFirst, repeatsFirst, restFirst, numbers}
+use Rattle.kinds.proofs.Below.{true-not-false, both-true, and-false, everyBelow, below}
 
 pub kinds-count : length kinds ≡ 66
 unfolding kinds
@@ -35,48 +35,45 @@ side-number zero-only names side = below-one side
 side-number (up-to n) names side = rw (eqb·suc-zero n) (leb·suc-suc side n)
 side-number name-number names side = refl
 
--- a class's range in the table holds its kinds and no other
+-- The computed test of a class: the kinds from its first up to the number past its last are those of the class and no other,
+-- and two hex digits hold each of the two numbers, with room for a mark.
 inRange : Class → ℕ → Bool
-inRange c k = leb (range c .first) k && ltb k (range c .past)
+inRange c k = leb (firstOf c) k && ltb k (pastOf c)
 
 agrees : Class → ℕ → Bool
 agrees c k = Bool·beq (inRange c k) (inClass c k)
 
-tied : (c : Class) → everyBelow (agrees c) 66 ≡ true
-unfolding everyBelow agrees inRange range inClass isKind classNumber entry kinds
-tied absent = refl
-tied path = refl
-tied seg = refl
-tied delay = refl
-tied intra = refl
-tied star-or-list = refl
-tied event = refl
-tied arm = refl
-tied decl = refl
-tied S = refl
-tied E = refl
-tied L = refl
+right : Class → Bool
+right c = everyBelow (agrees c) 66 && (ltb (firstOf c) 128 && (leb (pastOf c) 66 && ltb 0 (pastOf c)))
 
--- two hex digits hold each end of a range, with room for a mark
-record Bounds (c : Class) : Type 0 where
-  low : range c .first < 128
-  high : range c .past ≤ 66
-  some : 0 < range c .past
+all-right : (c : Class) → right c ≡ true
+unfolding right everyBelow agrees inRange firstOf pastOf before amount ofClass inClass isKind classNumber entry kinds
+all-right absent = refl
+all-right path = refl
+all-right seg = refl
+all-right delay = refl
+all-right intra = refl
+all-right star-or-list = refl
+all-right event = refl
+all-right arm = refl
+all-right decl = refl
+all-right S = refl
+all-right E = refl
+all-right L = refl
 
-bounds : (c : Class) → Bounds c
-unfolding range
-bounds absent = record { low = omega arith; high = omega arith; some = omega arith }
-bounds path = record { low = omega arith; high = omega arith; some = omega arith }
-bounds seg = record { low = omega arith; high = omega arith; some = omega arith }
-bounds delay = record { low = omega arith; high = omega arith; some = omega arith }
-bounds intra = record { low = omega arith; high = omega arith; some = omega arith }
-bounds star-or-list = record { low = omega arith; high = omega arith; some = omega arith }
-bounds event = record { low = omega arith; high = omega arith; some = omega arith }
-bounds arm = record { low = omega arith; high = omega arith; some = omega arith }
-bounds decl = record { low = omega arith; high = omega arith; some = omega arith }
-bounds S = record { low = omega arith; high = omega arith; some = omega arith }
-bounds E = record { low = omega arith; high = omega arith; some = omega arith }
-bounds L = record { low = omega arith; high = omega arith; some = omega arith }
+record Right (c : Class) : Type 0 where
+  tied : everyBelow (agrees c) 66 ≡ true
+  low : firstOf c < 128
+  high : pastOf c ≤ 66
+  some : 0 < pastOf c
+
+class-right : (c : Class) → Right c
+unfolding right
+class-right c =
+    let p = both-true (everyBelow (agrees c) 66) _ (all-right c) in
+    let q = both-true (ltb (firstOf c) 128) _ (p .1) in
+    let r = both-true (leb (pastOf c) 66) _ (q .1) in
+    record { tied = p .0; low = ltb-true (firstOf c) 128 (q .0); high = leb-true (pastOf c) 66 (r .0); some = ltb-true 0 (pastOf c) (r .1) }
 
 same-bool : (a b : Bool) → Bool·beq a b ≡ true → a ≡ b
 same-bool true true e = refl
@@ -84,19 +81,19 @@ same-bool true false e = true-not-false (cc)
 same-bool false true e = true-not-false (cc)
 same-bool false false e = refl
 
-pub in-range : (c : Class) (k : ℕ) → leb (range c .first) k && ltb k (range c .past) ≡ inClass c k
+pub in-range : (c : Class) (k : ℕ) → leb (firstOf c) k && ltb k (pastOf c) ≡ inClass c k
 unfolding inRange agrees inClass isKind
 in-range c k = go (ltb k 66) refl
   where
     go : (b : Bool) → ltb k 66 ≡ b → inRange c k ≡ inClass c k
-    go true e = same-bool _ _ (below (agrees c) 66 (tied c) k (ltb-true k 66 e))
+    go true e = same-bool _ _ (below (agrees c) 66 (class-right c .tied) k (ltb-true k 66 e))
     go false e =
-        rw (e, le-ltb k (range c .past) (omega (arith, ltb-false k 66 e, bounds c .high)))
-        (and-false (leb (range c .first) k))
+        rw (e, le-ltb k (pastOf c) (omega (arith, ltb-false k 66 e, class-right c .high)))
+        (and-false (leb (firstOf c) k))
 
 -- the kind `none` is 0
 is-absent : (k : ℕ) → eqb k 0 ≡ inClass absent k
-unfolding range
+unfolding firstOf pastOf before amount ofClass classNumber kinds
 is-absent k = sym (below-one k) ∙ sym (rw (le-leb 0 k (omega arith))) ∙ in-range absent k
 
 -- the digits of a number whose first item is of a class from a up to b, with the marks p and q, and whose other items are m
@@ -125,11 +122,11 @@ digits n a b m p q l h e =
     over true v = le-leb 32768 (n % 65536) (omega arith)
     over false v = lt-leb 32768 (n % 65536) (omega arith)
 
-first-digits : (i : Item) (items : List Item) → Digits (itemsNumber (i ∷ items)) (range (i .class) .first) (range (i .class) .past) (itemsNumber items) (i .may-be-absent) (i .may-repeat)
+first-digits : (i : Item) (items : List Item) → Digits (itemsNumber (i ∷ items)) (firstOf (i .class)) (pastOf (i .class)) (itemsNumber items) (i .may-be-absent) (i .may-repeat)
 unfolding itemsNumber itemNumber
 first-digits i items =
-    let f = bounds (i .class) in
-    digits (itemsNumber (i ∷ items)) (range (i .class) .first) (range (i .class) .past) (itemsNumber items) (i .may-be-absent) (i .may-repeat) (f .low) (f .high) refl
+    let f = class-right (i .class) in
+    digits (itemsNumber (i ∷ items)) (firstOf (i .class)) (pastOf (i .class)) (itemsNumber items) (i .may-be-absent) (i .may-repeat) (f .low) (f .high) refl
 
 -- the first item of a number takes the kinds that the item takes
 pub takes-first : (i : Item) (items : List Item) (k : ℕ) → takesFirst (itemsNumber (i ∷ items)) k ≡ takes i k
@@ -149,7 +146,7 @@ rest-number i items = first-digits i items .rest
 -- a number with an item is not 0
 pub some-number : (i : Item) (items : List Item) → 0 < itemsNumber (i ∷ items)
 unfolding itemsNumber itemNumber
-some-number i items = omega (arith, bounds (i .class) .some)
+some-number i items = omega (arith, class-right (i .class) .some)
 
 -- no item takes nothing
 pub takes-none : (k : ℕ) → takesFirst 0 k ≡ false

@@ -142,12 +142,15 @@ classNumber S = 9
 classNumber E = 10
 classNumber L = 11
 
--- a kind number is in the table; its kind is of a class
+unfoldable pub ofClass : Class → Entry → Bool
+ofClass c e = eqb (classNumber (e .class)) (classNumber c)
+
+-- whether a kind number is in the table, and whether its kind is of a class
 unfoldable pub isKind : ℕ → Bool
 isKind k = ltb k 66
 
 unfoldable pub inClass : Class → ℕ → Bool
-inClass c k = isKind k && eqb (classNumber (entry k .class)) (classNumber c)
+inClass c k = isKind k && ofClass c (entry k)
 
 -- "6: side number not allowed for the kind": whether the side numbers of a kind have this one, with so many names
 unfoldable pub sideFits : Sides → ℕ → ℕ → Bool

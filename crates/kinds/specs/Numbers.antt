@@ -6,7 +6,7 @@ use mathlib.Core.List.{List, [], _∷_}
 use lib.ListN.{length}
 use lib.Dec.{eqb, leb, ltb}
 use Rattle.kinds.specs.declared.Kind.{Kind}
-use Rattle.kinds.specs.Kinds.{Class, absent, path, seg, delay, intra, star-or-list, event, arm, decl, S, E, L, Sides, zero-only, up-to, name-number, Item, Entry}
+use Rattle.kinds.specs.Kinds.{Class, Sides, zero-only, up-to, name-number, Item, Entry, kinds, ofClass}
 
 -- how many side numbers there are; 0 stands for as many as there are names
 unfoldable pub sidesNumber : Sides → ℕ
@@ -17,36 +17,30 @@ sidesNumber name-number = 0
 unfoldable pub sideBelow : ℕ → ℕ → ℕ → Bool
 sideBelow sides names side = cond (eqb sides 0) (ltb side names) (ltb side sides)
 
--- the kinds of a class stand together in the table: the first one, and the number past the last
-pub record Range : Type 0 where
-  pub first : ℕ
-  pub past : ℕ
-
-abbrev pub from-to : ℕ → ℕ → Range
-from-to a b = record { first = a; past = b }
-
-unfoldable pub range : Class → Range
-range absent = from-to 0 1
-range path = from-to 1 2
-range seg = from-to 2 3
-range delay = from-to 3 4
-range intra = from-to 4 5
-range star-or-list = from-to 5 7
-range event = from-to 7 8
-range arm = from-to 8 10
-range decl = from-to 10 11
-range S = from-to 11 40
-range E = from-to 40 60
-range L = from-to 60 66
-
 abbrev pub bit : Bool → ℕ
 bit true = 1
 bit false = 0
 
+-- The kinds of a class stand together in the table: how many stand before them, and how many they are.
+unfoldable pub before : Class → List Entry → ℕ
+before c [] = 0
+before c (e ∷ es) = cond (ofClass c e) 0 (suc (before c es))
+
+unfoldable pub amount : Class → List Entry → ℕ
+amount c [] = 0
+amount c (e ∷ es) = bit (ofClass c e) + amount c es
+
+-- so the number of its first kind, and the number past its last
+unfoldable pub firstOf : Class → ℕ
+firstOf c = before c kinds
+
+unfoldable pub pastOf : Class → ℕ
+pastOf c = before c kinds + amount c kinds
+
 -- four hex digits an item: two for the number past its class, two for the first of its class, with 0x80 added to the
 -- latter if it may be absent and to the former if it may repeat
 unfoldable pub itemNumber : Item → ℕ
-itemNumber i = range (i .class) .first + 128 * bit (i .may-be-absent) + 256 * (range (i .class) .past + 128 * bit (i .may-repeat))
+itemNumber i = firstOf (i .class) + 128 * bit (i .may-be-absent) + 256 * (pastOf (i .class) + 128 * bit (i .may-repeat))
 
 -- the first item lowest
 unfoldable pub itemsNumber : List Item → ℕ
