@@ -1,7 +1,7 @@
 -- The numbers of the table say what its entries say: side numbers, classes, items.
 use Prim.Native.Nat.{ℕ, zero, suc, _+_, _*_, _/_, _%_, _≤_, _<_}
-use mathlib.Core.Path.{_≡_, refl, sym, _∙_}
-use mathlib.Core.Bool.{Bool, true, false, _&&_, Bool·beq}
+use mathlib.Core.Path.{_≡_, refl, sym, ap, _∙_}
+use mathlib.Core.Bool.{Bool, true, false, cond, _&&_, Bool·beq}
 use mathlib.Core.List.{List, [], _∷_, map}
 use native.Mathlib.Omega.{arith}
 use lib.ListN.{length, getD, length-map, List·getD-map}
@@ -9,7 +9,7 @@ use lib.Dec.{eqb, leb, ltb, leb·suc-suc, eqb·suc-zero}
 use borrow.Author.Tests.{ltb-true, ltb-false, le-ltb, le-leb, lt-leb, leb-true, eqb-true, eqb-false}
 use Rattle.kinds.specs.declared.Kind.{Kind}
 use Rattle.kinds.specs.Kinds.{Class, absent, path, seg, delay, intra, star-or-list, event, arm, decl, S, E, L, Sides, zero-only, up-to, name-number, Item, kinds, noEntry, entry, classNumber, ofClass, isKind, inClass, sideFits, takes}
-use Rattle.kinds.specs.Numbers.{sidesNumber, sideBelow, before, amount, firstOf, pastOf, bit, itemNumber, itemsNumber, ofFirst, takesFirst, repeatsFirst, restFirst, numbers}
+use Rattle.kinds.specs.Numbers.{sidesNumber, sideBelow, before, amount, firstOf, pastOf, bit, itemNumber, itemsNumber, ofFirst, takesFirst, repeatsFirst, restFirst, afterFirst, numbers}
 use Rattle.kinds.proofs.Below.{true-not-false, both-true, and-false, everyBelow, below}
 
 pub kinds-count : length kinds ≡ 66
@@ -147,6 +147,30 @@ rest-number i items = first-digits i items .rest
 pub some-number : (i : Item) (items : List Item) → 0 < itemsNumber (i ∷ items)
 unfolding itemsNumber itemNumber
 some-number i items = omega (arith, class-right (i .class) .some)
+
+-- A result that is read from a number, and what it means where the number is that of a kind's side numbers or items: the two
+-- promises of the calls that read them.
+pub side-told : (sides names side : ℕ) (r : Bool) → r ≡ sideBelow sides names side → (r ≡ sideBelow sides names side) × ((s : Sides) → sides ≡ sidesNumber s → r ≡ sideFits s names side)
+side-told sides names side r q = (q, λ s e. q ∙ rw e (side-number s names side))
+
+module _ (items : ℕ) where
+  pub takes-told : (k : ℕ) (r : Bool) → r ≡ takesFirst items k → (r ≡ takesFirst items k) × ((i : Item) (others : List Item) → items ≡ itemsNumber (i ∷ others) → r ≡ takes i k)
+  takes-told k r q = (q, λ i others e. q ∙ rw e (takes-first i others k))
+
+  pub repeats-told : (r : Bool) → r ≡ repeatsFirst items → (r ≡ repeatsFirst items) × ((i : Item) (others : List Item) → items ≡ itemsNumber (i ∷ others) → r ≡ i .may-repeat)
+  repeats-told r q = (q, λ i others e. q ∙ rw e (repeats-first i others))
+
+  pub rest-told : (r : ℕ) → r ≡ restFirst items → (r ≡ restFirst items) × ((i : Item) (others : List Item) → items ≡ itemsNumber (i ∷ others) → r ≡ itemsNumber others)
+  rest-told r q = (q, λ i others e. q ∙ rw e (rest-number i others))
+
+  after-is : (i : Item) (others : List Item) → items ≡ itemsNumber (i ∷ others) → afterFirst items ≡ cond (i .may-repeat) (itemsNumber (i ∷ others)) (itemsNumber others)
+  unfolding afterFirst
+  after-is i others e = rw e (ap (λ b. cond b (itemsNumber (i ∷ others)) (restFirst (itemsNumber (i ∷ others)))) (repeats-first i others) ∙ ap (cond (i .may-repeat) (itemsNumber (i ∷ others))) (rest-number i others))
+
+  pub after-told : (r : ℕ)
+      → r ≡ afterFirst items
+      → (r ≡ afterFirst items) × ((i : Item) (others : List Item) → items ≡ itemsNumber (i ∷ others) → r ≡ cond (i .may-repeat) (itemsNumber (i ∷ others)) (itemsNumber others))
+  after-told r q = (q, λ i others e. q ∙ after-is i others e)
 
 -- no item takes nothing
 pub takes-none : (k : ℕ) → takesFirst 0 k ≡ false

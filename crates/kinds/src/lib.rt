@@ -1,9 +1,10 @@
 // The table of kinds: what document 01 says of each kind, as numbers, and the kind of a word.
 ghost use mathlib.Core.Path.{_≡_};
-ghost use mathlib.Core.List.{map};
-ghost use Rattle.kinds.specs.Kinds.{kinds as kindList, inClass, S};
+ghost use mathlib.Core.Bool.{cond};
+ghost use mathlib.Core.List.{List, _∷_, map};
+ghost use Rattle.kinds.specs.Kinds.{Item, Sides, kinds as kindList, inClass, S, sideFits, takes};
 ghost use Rattle.kinds.specs.Words.{kindOf};
-ghost use Rattle.kinds.specs.Numbers.{numbers, sideBelow, ofFirst, takesFirst, repeatsFirst, restFirst, afterFirst, keyOf};
+ghost use Rattle.kinds.specs.Numbers.{numbers, sidesNumber, itemsNumber, sideBelow, ofFirst, takesFirst, repeatsFirst, restFirst, afterFirst, keyOf};
 
 // What the table holds of a kind: how many side numbers it has, 0 for as many as there are names, and its children, four
 // hex digits an item with the first item lowest (specs/Numbers).
@@ -361,6 +362,7 @@ pub fn kinds() -> [Kind; 66]
 // Whether a side number is one of the kind's, with so many names.
 pub fn side_fits(kind: Kind, side: usize, names: usize) -> bool
     ensures { λ r. ⌜ r ≡ sideBelow (kind .sides) names side ⌝ }
+    ensures means { λ r. ⌜ ((s : Sides) → kind .sides ≡ sidesNumber s → r ≡ sideFits s names side) ⌝ }
 {
     if kind.sides == 0 {
         return side < names;
@@ -390,6 +392,7 @@ fn of_first(items: usize, kind: usize) -> bool
 // Whether the first item of a kind's children takes a child of this kind.
 pub fn takes_first(items: usize, kind: usize) -> bool
     ensures { λ r. ⌜ r ≡ takesFirst items kind ⌝ }
+    ensures means { λ r. ⌜ ((i : Item) (others : List Item) → items ≡ itemsNumber (i ∷ others) → r ≡ takes i kind) ⌝ }
 {
     if items % 256 < 128 {
         return of_first(items, kind);
@@ -403,6 +406,7 @@ pub fn takes_first(items: usize, kind: usize) -> bool
 // Whether it may stand any number of times.
 pub fn repeats_first(items: usize) -> bool
     ensures { λ r. ⌜ r ≡ repeatsFirst items ⌝ }
+    ensures means { λ r. ⌜ ((i : Item) (others : List Item) → items ≡ itemsNumber (i ∷ others) → r ≡ i .may-repeat) ⌝ }
 {
     32768 <= items % 65536
 }
@@ -410,6 +414,7 @@ pub fn repeats_first(items: usize) -> bool
 // The items after the first.
 pub fn rest_first(items: usize) -> usize
     ensures { λ r. ⌜ r ≡ restFirst items ⌝ }
+    ensures means { λ r. ⌜ ((i : Item) (others : List Item) → items ≡ itemsNumber (i ∷ others) → r ≡ itemsNumber others) ⌝ }
 {
     items / 65536
 }
@@ -417,6 +422,7 @@ pub fn rest_first(items: usize) -> usize
 // The items that are left for the next child, once the first item has taken one.
 pub fn after_first(items: usize) -> usize
     ensures { λ r. ⌜ r ≡ afterFirst items ⌝ }
+    ensures means { λ r. ⌜ ((i : Item) (others : List Item) → items ≡ itemsNumber (i ∷ others) → r ≡ cond (i .may-repeat) (itemsNumber (i ∷ others)) (itemsNumber others)) ⌝ }
 {
     if repeats_first(items) {
         return items;

@@ -1,5 +1,6 @@
 use borrow.Author.Needs.{needs}
 use Rattle.kinds.specs.Numbers.{afterFirst}
+use Rattle.kinds.proofs.Numbers.{after-told}
 use Rattle.kinds.proofs.after_first.Statement.{statement}
 use Rattle.kinds.proofs.after_first.Tie as tie
 
@@ -9,6 +10,6 @@ after-first-spec =
     tie.close
     (tie.spec
     (λ c κs. search needs)
-    (λ c. rw (← c .before .repeats-first .ensures, c .if1 .taken))
+    (λ c. after-told _ _ (rw (← c .before .repeats-first .ensures .0, c .if1 .taken)))
     (λ c κs. search needs)
-    (λ c. rw (← c .before .before .repeats-first .ensures, c .before .if1 .left) (c .rest-first .ensures)))
+    (λ c. after-told _ _ (rw (← c .before .before .repeats-first .ensures .0, c .before .if1 .left) (c .rest-first .ensures .0))))

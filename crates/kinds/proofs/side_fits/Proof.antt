@@ -1,5 +1,6 @@
 use borrow.Author.Tests.{eq-eqb, ne-eqb}
 use Rattle.kinds.specs.Numbers.{sideBelow}
+use Rattle.kinds.proofs.Numbers.{side-told}
 use Rattle.kinds.proofs.side_fits.Statement.{statement}
 use Rattle.kinds.proofs.side_fits.Tie as tie
 
@@ -8,5 +9,5 @@ unfolding sideBelow
 side-fits-spec =
     tie.close
     (tie.spec
-    (λ c. rw (eq-eqb _ _ (c .if1 .taken)))
-    (λ c. rw (ne-eqb _ _ (c .before .if1 .left))))
+    (λ c. side-told _ _ _ _ (rw (eq-eqb _ _ (c .if1 .taken))))
+    (λ c. side-told _ _ _ _ (rw (ne-eqb _ _ (c .before .if1 .left)))))
