@@ -370,7 +370,7 @@ pub fn side_fits(kind: Kind, side: usize, names: usize) -> bool
     side < kind.sides
 }
 
-// Whether a kind is a statement.
+// Whether a kind is a statement: kinds 11 to 39 are.
 pub fn is_statement(kind: usize) -> bool
     ensures { λ r. ⌜ r ≡ inClass S kind ⌝ }
 {
@@ -380,6 +380,7 @@ pub fn is_statement(kind: usize) -> bool
     kind < 40
 }
 
+// Whether a kind is of the class that the first item of a kind's children asks for.
 fn of_first(items: usize, kind: usize) -> bool
     ensures { λ r. ⌜ r ≡ ofFirst items kind ⌝ }
 {
