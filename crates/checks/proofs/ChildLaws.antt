@@ -21,7 +21,7 @@ use Rattle.checks.specs.declared.Checked.{Checked}
 use Rattle.checks.specs.declared.Checked.the-variants.{Passed, Refused}
 use Rattle.checks.specs.Checks.{firstFrom, endsOf, kindAlone, kindsOf, childrenFit, childrenAt, rootAt, childrenOf}
 use Rattle.checks.proofs.Nest.{ends-passed}
-use Rattle.checks.proofs.Rows.{Checking, checking-start, checking-done, checking-stop, checking-next}
+use Rattle.checks.proofs.Rows.{Checking, checking-start, checking-done, checking-stop, checking-fails, checking-holds}
 
 -- the kinds of the siblings from a row on: its own, then the others'
 kinds-some : {rows : List ℕ} {from to : ℕ} → Nested rows from to → from < to → kindsOf (tree rows from to) ≡ kindAt rows from ∷ kindsOf (tree rows (endAt rows from) to)
@@ -100,10 +100,10 @@ module _ (rows : List ℕ) (count i k : ℕ) (w : Checking (childrenAt rows) cou
     told = rw (lt-ltb (kindAt rows i) 66 (omega arith), ← q)
 
     pub children-wrong : not r ≡ true → Refused WrongChildren i ≡ firstFrom (childrenAt rows) count 0
-    children-wrong n = checking-stop w h WrongChildren i (told ∙ rw (not-true r n))
+    children-wrong n = checking-fails w h WrongChildren r told n
 
     pub children-next : not r ≡ false → Checking (childrenAt rows) count (i + 1)
-    children-next n = checking-next w h (told ∙ rw (not-false r n))
+    children-next n = checking-holds w h WrongChildren r told n
 
 -- the row come to nests with the rest; the code's table has its items
 pub row-nested : (rows : List ℕ) (count i : ℕ) → Nested rows 0 count → i < count → Nested rows i count

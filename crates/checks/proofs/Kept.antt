@@ -3,6 +3,7 @@ use Prim.Native.Nat.{ℕ, zero, suc, _+_, _-_, _≤_, _<_}
 use mathlib.Core.Path.{_≡_, refl, sym, ap, _∙_}
 use mathlib.Core.Bool.{Bool, true, false, not}
 use mathlib.Core.List.{List, _∷_}
+use native.Mathlib.Nat.{pos-of-ne-zero}
 use native.Mathlib.Omega.{arith}
 use native.Mathlib.Numerals.{add-one}
 use lib.ListN.{length, getD, set, length-set}
@@ -68,17 +69,13 @@ module _ (xs : List ℕ) (depth count row end : ℕ) where
   fits-root z = rw z
 
   module _ (h : (depth ≡ 0 → ⊥)) where
-    above-zero : (n : ℕ) → (n ≡ 0 → ⊥) → 0 < n
-    above-zero zero d = absurd (d refl)
-    above-zero (suc n) d = omega arith
-
     pub fits-within : row < end → leb end (getD xs (depth - 1) 0) ≡ endFits count row end (lastFirst xs depth)
     unfolding endFits
-    fits-within l = rw (top xs depth (above-zero depth h), lt-ltb row end l)
+    fits-within l = rw (top xs depth (pos-of-ne-zero h), lt-ltb row end l)
 
     pub fits-low : end ≤ row → false ≡ endFits count row end (lastFirst xs depth)
     unfolding endFits
-    fits-low l = rw (top xs depth (above-zero depth h), le-ltb row end l)
+    fits-low l = rw (top xs depth (pos-of-ne-zero h), le-ltb row end l)
 
 pub ruleset fitting = (fits-root, fits-low, fits-within)
 

@@ -1,7 +1,9 @@
 -- A check that goes over the rows: what its loop keeps, and what a check that passed says of each row.
 use Prim.Native.Nat.{ℕ, zero, suc, _+_, _-_, _≤_, _<_}
 use mathlib.Core.Path.{_≡_, refl, sym, _∙_}
+use mathlib.Core.Bool.{Bool, true, false, cond, not}
 use native.Mathlib.Omega.{arith}
+use borrow.Author.Tests.{not-true, not-false}
 use Rattle.checks.specs.declared.Fault.{Fault}
 use Rattle.checks.specs.declared.Checked.{Checked}
 use Rattle.checks.specs.declared.Checked.the-variants.{Passed, Refused}
@@ -34,6 +36,14 @@ module _ {test : ℕ → Checked} {count i : ℕ} (w : Checking test count i) wh
 
     pub checking-next : test i ≡ Passed → Checking test count (i + 1)
     checking-next e = record { upto = omega arith; same = step ∙ rw e }
+
+    -- a row that is refused where a test fails
+    module _ (fault : Fault) (r : Bool) (e : test i ≡ cond r Passed (Refused fault i)) where
+      pub checking-fails : not r ≡ true → Refused fault i ≡ firstFrom test count 0
+      checking-fails n = checking-stop fault i (e ∙ rw (not-true r n))
+
+      pub checking-holds : not r ≡ false → Checking test count (i + 1)
+      checking-holds n = checking-next (e ∙ rw (not-false r n))
 
 -- two checks that passed, one after the other
 pub both-pass : (a b : Checked) → andThen a b ≡ Passed → (a ≡ Passed) × (b ≡ Passed)

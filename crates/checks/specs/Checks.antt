@@ -47,6 +47,7 @@ fieldsAt rows names i =
     (cond (sideFits (entry (kindAt rows i) .sides) names (sideAt rows i)) Passed (Refused WrongSide i))
     (Refused UnknownKind i)
 
+-- "then fields, ends and depth, children, each in row order": the fields
 abbrev pub fieldsOf : List ℕ → ℕ → ℕ → Checked
 fieldsOf rows count names = whenHeld rows count (firstFrom (fieldsAt rows names) count 0)
 
@@ -82,6 +83,7 @@ endsAt rows count i =
     (cond (leb (depthAt rows i) 100) Passed (Refused TooDeep i))
     (Refused WrongEnd i)
 
+-- the ends and the depth
 abbrev pub endsOf : List ℕ → ℕ → Checked
 endsOf rows count = whenHeld rows count (firstFrom (endsAt rows count) count 0)
 
@@ -96,13 +98,14 @@ kindsOf = fold kindAlone
 abbrev pub childrenFit : List ℕ → ℕ → Bool
 childrenFit rows i = fits (entry (kindAt rows i) .children) (kindsOf (tree rows (i + 1) (endAt rows i)))
 
--- "9: children that don't fit the kind; row 0 not a statement". A kind that is not in the table has none that fit.
+-- "9: children that don't fit the kind"; a kind that is not in the table has none that fit
 unfoldable pub childrenAt : List ℕ → ℕ → Checked
 childrenAt rows i = cond (isKind (kindAt rows i) && childrenFit rows i) Passed (Refused WrongChildren i)
 
+-- "row 0 not a statement", which is 9 as well
 unfoldable pub rootAt : List ℕ → Checked
 rootAt rows = cond (inClass S (kindAt rows 0)) Passed (Refused WrongChildren 0)
 
--- "7 and 8 in row order, 7 before 8; then 9 in row order". Only rows whose ends nest have children, so the ends come first.
+-- the children, after the ends: "7 and 8 in row order, 7 before 8; then 9 in row order". Only rows whose ends nest have children, so the ends come first.
 abbrev pub childrenOf : List ℕ → ℕ → Checked
 childrenOf rows count = andThen (endsOf rows count) (andThen (rootAt rows) (firstFrom (childrenAt rows) count 0))

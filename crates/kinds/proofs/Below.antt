@@ -1,21 +1,15 @@
 -- A rule of the whole table, from a test that is computed once over it.
 use Prim.Native.Nat.{ℕ, zero, suc, _<_}
-use mathlib.Core.Path.{_≡_, refl}
-use mathlib.Core.Bool.{Bool, true, false, _&&_}
+use mathlib.Core.Path.{_≡_}
+use mathlib.Core.Bool.{Bool, true, false, _&&_, true≢false, and-eq-true-iff}
 use mathlib.Core.Logic.{⊎-elim}
 use native.Mathlib.Nat.{not-suc-le-zero, le-of-suc-le-suc, eq-or-lt-of-le}
-use native.Mathlib.Omega.{arith}
 
 pub true-not-false : {A : Type 0} → true ≡ false → A
-true-not-false e = absurd (let z : _≡_ {A = ℕ} 0 1 = cc in omega arith)
+true-not-false e = absurd (true≢false e)
 
 pub both-true : (a b : Bool) → a && b ≡ true → (a ≡ true) × (b ≡ true)
-both-true true b e = (refl, e)
-both-true false b e = true-not-false (cc)
-
-pub and-false : (a : Bool) → a && false ≡ false
-and-false true = refl
-and-false false = refl
+both-true a b = and-eq-true-iff a b .0
 
 -- a test passes at each number below n
 unfoldable pub everyBelow : (ℕ → Bool) → ℕ → Bool

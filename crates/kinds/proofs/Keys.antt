@@ -1,7 +1,7 @@
 -- Keys: a key stands for one word.
 use Prim.Native.Nat.{ℕ, zero, suc, _+_, _-_, _*_, _≤_, _<_}
 use mathlib.Core.Path.{_≡_, refl, _∙_}
-use mathlib.Core.Bool.{true, false}
+use mathlib.Core.Bool.{true, false, and-false}
 use mathlib.Core.List.{List, [], _∷_}
 use native.Mathlib.Nat.{add-zero, add-suc}
 use native.Mathlib.Omega.{arith}
@@ -10,7 +10,7 @@ use lib.Seq.{drop-cons, drop-length}
 use lib.Dec.{leb}
 use borrow.Author.Tests.{leb-true, le-leb, lt-leb}
 use Rattle.kinds.specs.Numbers.{key, letters, isLetter, keyOf}
-use Rattle.kinds.proofs.Below.{both-true, and-false}
+use Rattle.kinds.proofs.Below.{both-true}
 
 record Letter (b : ℕ) : Type 0 where
   low : 97 ≤ b

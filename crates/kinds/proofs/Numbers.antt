@@ -1,8 +1,9 @@
 -- The numbers of the table say what its entries say: side numbers, classes, items.
 use Prim.Native.Nat.{ℕ, zero, suc, _+_, _*_, _/_, _%_, _≤_, _<_}
 use mathlib.Core.Path.{_≡_, refl, sym, ap, _∙_}
-use mathlib.Core.Bool.{Bool, true, false, cond, _&&_, Bool·beq}
+use mathlib.Core.Bool.{Bool, true, false, cond, _&&_, Bool·beq, and-false}
 use mathlib.Core.List.{List, [], _∷_, map}
+use native.Mathlib.Nat.{pos-of-ne-zero}
 use native.Mathlib.Omega.{arith}
 use lib.ListN.{length, getD, length-map, List·getD-map}
 use lib.Dec.{eqb, leb, ltb, leb·suc-suc, eqb·suc-zero}
@@ -10,7 +11,7 @@ use borrow.Author.Tests.{ltb-true, ltb-false, le-ltb, le-leb, lt-leb, leb-true, 
 use Rattle.kinds.specs.declared.Kind.{Kind}
 use Rattle.kinds.specs.Kinds.{Class, absent, path, seg, delay, intra, star-or-list, event, arm, decl, S, E, L, Sides, zero-only, up-to, name-number, Item, kinds, noEntry, entry, classNumber, ofClass, isKind, inClass, sideFits, takes}
 use Rattle.kinds.specs.Numbers.{sidesNumber, sideBelow, before, amount, firstOf, pastOf, bit, itemNumber, itemsNumber, ofFirst, takesFirst, repeatsFirst, restFirst, afterFirst, numbers}
-use Rattle.kinds.proofs.Below.{true-not-false, both-true, and-false, everyBelow, below}
+use Rattle.kinds.proofs.Below.{true-not-false, both-true, everyBelow, below}
 
 pub kinds-count : length kinds ≡ 66
 unfolding kinds
@@ -22,11 +23,7 @@ below-one n = go (eqb n 0) refl
   where
     go : (b : Bool) → eqb n 0 ≡ b → ltb n 1 ≡ b
     go true e = rw (eqb-true n 0 e)
-    go false e = le-ltb n 1 (least n (eqb-false n 0 e))
-      where
-        least : (m : ℕ) → (m ≡ 0 → ⊥) → 1 ≤ m
-        least zero d = absurd (d refl)
-        least (suc m) d = omega arith
+    go false e = le-ltb n 1 (pos-of-ne-zero (eqb-false n 0 e))
 
 -- the count of side numbers, and the side numbers
 side-number : (s : Sides) (names side : ℕ) → sideBelow (sidesNumber s) names side ≡ sideFits s names side

@@ -34,6 +34,7 @@ optional c = record { class = c; may-be-absent = true; may-repeat = false }
 abbrev pub any : Class → Item
 any c = record { class = c; may-be-absent = false; may-repeat = true }
 
+-- "each word, its side numbers and its children", and the class that its kind is of
 pub record Entry : Type 0 where
   pub word : List ℕ
   pub class : Class
@@ -124,6 +125,7 @@ kinds =
 abbrev pub noEntry : Entry
 noEntry = record { word = []; class = absent; sides = zero-only; children = [] }
 
+-- the entry of a kind number
 unfoldable pub entry : ℕ → Entry
 entry k = getD kinds k noEntry
 
@@ -142,6 +144,7 @@ classNumber S = 9
 classNumber E = 10
 classNumber L = 11
 
+-- whether an entry is of a class
 unfoldable pub ofClass : Class → Entry → Bool
 ofClass c e = eqb (classNumber (e .class)) (classNumber c)
 

@@ -18,6 +18,7 @@ nth d n [] = d
 nth d zero (x ∷ xs) = x
 nth d (suc n) (x ∷ xs) = nth d n xs
 
+-- the attributes of the siblings after the first
 abbrev pub tail {ℓ} : {A : Type ℓ} → List A → List A
 tail [] = []
 tail (x ∷ xs) = xs
