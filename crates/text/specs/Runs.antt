@@ -1,0 +1,71 @@
+-- How far the code reads: as many bytes as go on with a number, or with a name. Nothing here is document 01's: what these say
+-- of a field is proved in proofs/DigitLaws and proofs/NameLaws.
+use Prim.Native.Nat.{ℕ, zero, suc, _+_, _-_, _*_, _≤_}
+use mathlib.Core.Path.{_≡_}
+use mathlib.Core.Bool.{Bool, true, cond, _&&_}
+use mathlib.Core.List.{List, [], _∷_}
+use lib.Dec.{eqb, leb}
+use lib.ListN.{drop}
+use Rattle.text.specs.Fields.{stopAt, afterByte, endsBy, field}
+use Rattle.text.specs.Numbers.{Spelled, none, isDigit, numberOf}
+
+-- whether a byte goes on with a number that is v so far: a digit, after which the number is below 4,294,967,300
+unfoldable pub goesOn : ℕ → ℕ → Bool
+goesOn v b = isDigit b && leb v 429496729
+
+-- the number, and how many digits are read
+unfoldable pub moreValue : ℕ → List ℕ → ℕ
+moreValue v [] = v
+moreValue v (b ∷ t) = cond (goesOn v b) (moreValue (v * 10 + (b - 48)) t) v
+
+unfoldable pub moreCount : ℕ → List ℕ → ℕ
+moreCount v [] = zero
+moreCount v (b ∷ t) = cond (goesOn v b) (suc (moreCount (v * 10 + (b - 48)) t)) zero
+
+-- the same from the first byte on: after a zero no more are read, and 4,294,967,296 stands for no digit at all
+unfoldable pub firstValue : List ℕ → ℕ
+firstValue [] = 4294967296
+firstValue (b ∷ t) = cond (eqb b 48) 0 (cond (isDigit b) (moreValue (b - 48) t) 4294967296)
+
+unfoldable pub firstCount : List ℕ → ℕ
+firstCount [] = zero
+firstCount (b ∷ t) = cond (eqb b 48) 1 (cond (isDigit b) (suc (moreCount (b - 48) t)) zero)
+
+-- what `digit_value` tells of a digit
+pub record DigitValue (b r : ℕ) : Type 0 where
+  pub is : r ≡ b - 48
+  pub few : r ≤ 9
+
+-- what `more_digits` and `digits` tell of the digits from a place on
+pub record MoreRead (s : List ℕ) (at value i v : ℕ) : Type 0 where
+  pub number : v ≡ moreValue value (drop at s)
+  pub stop : i ≡ at + moreCount value (drop at s)
+
+pub record FirstRead (s : List ℕ) (at i v : ℕ) : Type 0 where
+  pub number : v ≡ firstValue (drop at s)
+  pub stop : i ≡ at + firstCount (drop at s)
+
+-- what `number` tells of the field at a place: the place after it, 0 where another byte ends it, and what it spells, none there
+unfoldable pub nextField : ℕ → ℕ → List ℕ → ℕ → ℕ
+nextField sep end s at = afterByte end s (stopAt sep s at)
+
+unfoldable pub fieldNumber : ℕ → ℕ → List ℕ → ℕ → Spelled
+fieldNumber sep end s at = cond (endsBy sep end s at) (numberOf (field sep s at)) none
+
+-- "a byte outside 33..126" does not stand in a name
+unfoldable pub isGraphic : ℕ → Bool
+isGraphic b = leb 33 b && leb b 126
+
+unfoldable pub graphicLength : List ℕ → ℕ
+graphicLength [] = zero
+graphicLength (b ∷ t) = cond (isGraphic b) (suc (graphicLength t)) zero
+
+unfoldable pub allGraphic : List ℕ → Bool
+allGraphic [] = true
+allGraphic (b ∷ t) = isGraphic b && allGraphic t
+
+-- what `graphic_line` tells of the text from a place up to the end of its line
+pub record GraphicRead (s : List ℕ) (at : ℕ) (all : Bool) (stop next : ℕ) : Type 0 where
+  pub fits : all ≡ endsBy 10 10 s at && allGraphic (field 10 s at)
+  pub far : stop ≡ at + graphicLength (drop at s)
+  pub past : next ≡ nextField 10 10 s at
