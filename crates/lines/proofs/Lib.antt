@@ -1,3 +1,4 @@
 pub mod NumberLaws
 pub mod NameLaws
 pub mod RowLaws
+pub mod Told

@@ -1,0 +1,4 @@
+pub mod Puts
+pub mod Going
+pub mod NameLines
+pub mod RowLines
