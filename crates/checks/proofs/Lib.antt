@@ -7,3 +7,4 @@ pub mod Nest
 pub mod ChildLaws
 pub mod Passed
 pub mod Listing
+pub mod Places

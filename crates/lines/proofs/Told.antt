@@ -8,7 +8,7 @@ use lib.Dec.{leb, ltb}
 use lib.ListN.{length, take, drop, length-drop}
 use lib.Seq.{length-take-le}
 use borrow.Author.Tests.{leb-true, ltb-true}
-use Rattle.kinds.specs.Kinds.{bytes}
+use Rattle.kinds.specs.Kinds.{bytes, entry, sideFits}
 use Rattle.kinds.specs.Words.{kindOf}
 use Rattle.kinds.specs.declared.Found.{Found}
 use Rattle.kinds.specs.declared.Found.the-variants.{Is, Unknown}
@@ -17,35 +17,42 @@ use Rattle.text.specs.Fields.{fieldLength, fieldOf, field, stopAt, stands, ends
 use Rattle.text.specs.Numbers.{Spelled, is, none, numberOf}
 use Rattle.text.specs.Runs.{allGraphic}
 use Rattle.lines.specs.declared.Fault.{Fault}
-use Rattle.lines.specs.declared.Fault.the-variants.{WrongLine, WrongName}
+use Rattle.lines.specs.declared.Fault.the-variants.{WrongLine, WrongName, WrongSide}
 use Rattle.lines.specs.declared.Name.{Name}
 use Rattle.lines.specs.declared.NameLine.{NameLine}
 use Rattle.lines.specs.declared.NameLine.the-variants as M
 use Rattle.lines.specs.declared.Row.{Row}
 use Rattle.lines.specs.declared.RowLine.{RowLine}
 use Rattle.lines.specs.declared.RowLine.the-variants as R
-use Rattle.lines.specs.Lines.{keyed, jumpMark, nameOf, nameLine, fiveFields, rowOf, rowFrom, rowFields, rowLine}
+use Rattle.lines.specs.Lines.{keyed, jumpMark, nameOf, nameLine, fiveFields, rowOf, rowFrom, rowFields, rowLine, sided, rowAt}
 
--- the text of a field that a byte ends is in the sheet
-pub field-within : (sep end : ℕ) (s : List ℕ) (at : ℕ) → endsBy sep end s at ≡ true → at + length (field sep s at) ≤ length s
+-- a field that a byte ends stops in the sheet, and so far its text goes
+field-stops : (sep end : ℕ) (s : List ℕ) (at : ℕ) → endsBy sep end s at ≡ true → (at + fieldLength sep (drop at s) < length s) × (length (field sep s at) ≡ fieldLength sep (drop at s))
 unfolding endsBy stands stopAt fieldOf
-field-within sep end s at e =
+field-stops sep end s at e =
     let h : at + fieldLength sep (drop at s) < length s = ltb-true _ _ (and-eq-true-iff (ltb (at + fieldLength sep (drop at s)) (length s)) _ .0 e .0) in
-    let l = length-take-le (fieldLength sep (drop at s)) (drop at s) (omega (arith, length-drop at s)) in
-    omega arith
+    (h, length-take-le (fieldLength sep (drop at s)) (drop at s) (omega (arith, length-drop at s)))
 
--- the bytes that the text's place and length give are the text
-pub field-back : (sep end : ℕ) (s : List ℕ) (at : ℕ) → endsBy sep end s at ≡ true → take (length (field sep s at)) (drop at s) ≡ field sep s at
-unfolding endsBy stands stopAt fieldOf
-field-back sep end s at e =
-    let h : at + fieldLength sep (drop at s) < length s = ltb-true _ _ (and-eq-true-iff (ltb (at + fieldLength sep (drop at s)) (length s)) _ .0 e .0) in
-    let l = length-take-le (fieldLength sep (drop at s)) (drop at s) (omega (arith, length-drop at s)) in
-    ap (λ (n : ℕ). take n (drop at s)) l
+module _ (sep end : ℕ) (s : List ℕ) (at : ℕ) (e : endsBy sep end s at ≡ true) where
+  -- the text of such a field is in the sheet
+  pub field-within : at + length (field sep s at) ≤ length s
+  field-within = let h = field-stops sep end s at e in omega arith
 
--- what is known of the name on a line: where it stands, its text, which is ended by byte 10, and its order
+  -- the bytes that the text's place and length give are the text
+  pub field-back : take (length (field sep s at)) (drop at s) ≡ field sep s at
+  unfolding fieldOf
+  field-back = ap (λ (n : ℕ). take n (drop at s)) (field-stops sep end s at e .1)
+
+  -- what follows the field starts past the text and the byte that ends it
+  pub field-after : after sep s at ≡ at + length (field sep s at) + 1
+  unfolding after stopAt
+  field-after = let h = field-stops sep end s at e in omega arith
+
+-- what is known of the name on a line: its key, where it stands, its text, which is ended by byte 10, and its order
 pub record NameTold (before s : List ℕ) (at : ℕ) (name : Name) (next : ℕ) : Type 0 where
   pub is : name ≡ record { offset = at + 5; length = length (field 10 s (at + 5)); mark = jumpMark (field 10 s (at + 5)) }
   pub goes-on : next ≡ after 10 s (at + 5)
+  pub key : startsWith (bytes "name=") (drop at s) ≡ true
   pub ended : endsBy 10 10 s (at + 5) ≡ true
   pub some : 1 ≤ length (field 10 s (at + 5))
   pub few : length (field 10 s (at + 5)) ≤ 64
@@ -70,19 +77,19 @@ name-told before s at name next e = keyed-told (startsWith (bytes "name=") (drop
     entry : Name
     entry = record { offset = at + 5; length = length text; mark = jumpMark text }
 
-    fits-told : (f : Bool) → leb 1 (length text) && (leb (length text) 64 && below before text) ≡ f → endsBy 10 10 s (at + 5) ≡ true → allGraphic text ≡ true → cond f (M.Read entry (after 10 s (at + 5))) (M.Wrong WrongName) ≡ M.Read name next → NameTold before s at name next
+    fits-told : (f : Bool) → leb 1 (length text) && (leb (length text) 64 && below before text) ≡ f → (startsWith (bytes "name=") (drop at s) ≡ true) × (endsBy 10 10 s (at + 5) ≡ true) → allGraphic text ≡ true → cond f (M.Read entry (after 10 s (at + 5))) (M.Wrong WrongName) ≡ M.Read name next → NameTold before s at name next
     fits-told true q k g e =
         let a = and-eq-true-iff (leb 1 (length text)) _ .0 q in
         let b = and-eq-true-iff (leb (length text) 64) (below before text) .0 (a .1) in
-        record { is = sym (cc); goes-on = cc; ended = k; some = leb-true _ _ (a .0); few = leb-true _ _ (b .0); graphic = g; above = b .1 }
+        record { is = sym (cc); goes-on = cc; key = k .0; ended = k .1; some = leb-true _ _ (a .0); few = leb-true _ _ (b .0); graphic = g; above = b .1 }
     fits-told false q k g e = no-name WrongName name next e
 
-    graphic-told : (g : Bool) → allGraphic text ≡ g → endsBy 10 10 s (at + 5) ≡ true → cond g (nameOf before text (at + 5) (after 10 s (at + 5))) (M.Wrong WrongName) ≡ M.Read name next → NameTold before s at name next
+    graphic-told : (g : Bool) → allGraphic text ≡ g → (startsWith (bytes "name=") (drop at s) ≡ true) × (endsBy 10 10 s (at + 5) ≡ true) → cond g (nameOf before text (at + 5) (after 10 s (at + 5))) (M.Wrong WrongName) ≡ M.Read name next → NameTold before s at name next
     graphic-told true q k e = fits-told (leb 1 (length text) && (leb (length text) 64 && below before text)) refl k q e
     graphic-told false q k e = no-name WrongName name next e
 
     keyed-told : (k : Bool) → startsWith (bytes "name=") (drop at s) && endsBy 10 10 s (at + 5) ≡ k → cond k (cond (allGraphic text) (nameOf before text (at + 5) (after 10 s (at + 5))) (M.Wrong WrongName)) (M.Wrong WrongLine) ≡ M.Read name next → NameTold before s at name next
-    keyed-told true q e = graphic-told (allGraphic text) refl (and-eq-true-iff (startsWith (bytes "name=") (drop at s)) _ .0 q .1) e
+    keyed-told true q e = graphic-told (allGraphic text) refl (and-eq-true-iff (startsWith (bytes "name=") (drop at s)) _ .0 q) e
     keyed-told false q e = no-name WrongLine name next e
 
 -- a name's offset and length are in the sheet, and give its text
@@ -125,3 +132,16 @@ row-known s at row next e = go (startsWith (bytes "row=") (drop at s)) e
     go : (k : Bool) → cond k (rowFields s (at + 4)) (R.Wrong WrongLine) ≡ R.Read row next → row .kind < 66
     go true e = from-known s (at + 4) (after 32 s (at + 4)) (after 32 s (after 32 s (at + 4))) (after 32 s (after 32 s (after 32 s (at + 4)))) (after 32 s (after 32 s (after 32 s (after 32 s (at + 4))))) row next e
     go false e = no-row WrongLine row next e
+
+side-told : (names : ℕ) (row r : Row) (next n : ℕ) (b : Bool) → sideFits (entry (r .kind) .sides) names (r .side) ≡ b → cond b (R.Read r n) (R.Wrong WrongSide) ≡ R.Read row next → (R.Read r n ≡ R.Read row next) × (sideFits (entry (row .kind) .sides) names (row .side) ≡ true)
+side-told names row r next n true q e = let z : r ≡ row = cc in (e, rw (← z) q)
+side-told names row r next n false q e = no-row WrongSide row next e
+
+-- what is known of the row on a line with so many names: its kind is in the table, and has its side number
+pub row-told : (names : ℕ) (s : List ℕ) (at : ℕ) (row : Row) (next : ℕ) → rowAt names s at ≡ R.Read row next → (row .kind < 66) × (sideFits (entry (row .kind) .sides) names (row .side) ≡ true)
+unfolding rowAt
+row-told names s at row next e = let p = go (rowLine s at) e in (row-known s at row next (p .0), p .1)
+  where
+    go : (l : RowLine) → sided names l ≡ R.Read row next → (l ≡ R.Read row next) × (sideFits (entry (row .kind) .sides) names (row .side) ≡ true)
+    go (R.Read r n) e = side-told names row r next n (sideFits (entry (r .kind) .sides) names (r .side)) refl e
+    go (R.Wrong fault) e = no-row fault row next e

@@ -17,7 +17,7 @@ prepend-both : (a b : List ℕ) (l : Lines) → prepend a (prepend b l) ≡ prep
 prepend-both a b (read numbers next) = ap (λ (x : List ℕ). read x next) (sym (append-assoc a b numbers))
 prepend-both a b (refused fault line) = refl
 
-never : {A : Type 0} {fault : Fault} {line : ℕ} {numbers : List ℕ} {next : ℕ} → refused fault line ≡ read numbers next → A
+pub never : {A : Type 0} {fault : Fault} {line : ℕ} {numbers : List ℕ} {next : ℕ} → refused fault line ≡ read numbers next → A
 never e = absurd (let z : _≡_ {A = ℕ} 0 1 = cc in omega arith)
 
 -- the first of some lines is wrong, or right

@@ -2,3 +2,4 @@ pub mod Puts
 pub mod Going
 pub mod NameLines
 pub mod RowLines
+pub mod ReadLaws

@@ -1,3 +1,4 @@
 pub mod Ranges
 pub mod Tree
 pub mod Fold
+pub mod Same

@@ -1,0 +1,6 @@
+pub mod Zeros
+pub mod FactLaws
+pub mod Reading
+pub mod Finishing
+pub mod Loading
+pub mod PlaceLaws

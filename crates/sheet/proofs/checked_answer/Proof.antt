@@ -1,0 +1,16 @@
+use borrow.Author.Needs.{needs}
+use Rattle.sheet.proofs.Finishing.{answers}
+use Rattle.checks.proofs.Places.{children-row}
+use Rattle.sheet.proofs.checked_answer.Statement.{statement}
+use Rattle.sheet.proofs.checked_answer.Tie as tie
+
+pub checked-answer-spec : {M : Type 1} → statement M
+checked-answer-spec =
+    tie.close
+    (tie.spec
+    (λ c κs. search needs)
+    (λ c. search answers)
+    (λ c. search needs)
+    (λ c κs. search (children-row, needs))
+    (λ c. search answers)
+    (λ c. search answers))

@@ -1,0 +1,20 @@
+use borrow.Author.Needs.{needs}
+use Rattle.sheet.proofs.Loading.{answers}
+use Rattle.sheet.proofs.fill.Statement.{statement}
+use Rattle.sheet.proofs.fill.Tie as tie
+
+pub fill-spec : {M : Type 1} → statement M
+fill-spec =
+    tie.close
+    (tie.spec
+    (λ c. search answers)
+    (λ c κs. search answers)
+    (λ c. search needs)
+    (λ c. search answers)
+    (λ c. search needs)
+    (λ c. search needs)
+    (λ c. search answers)
+    (λ c κs. search answers)
+    (λ c. search needs)
+    (λ c. search needs)
+    (λ c. search answers))

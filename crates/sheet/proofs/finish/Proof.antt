@@ -1,0 +1,17 @@
+use borrow.Author.Needs.{needs}
+use Rattle.sheet.proofs.Finishing.{answers}
+use Rattle.sheet.proofs.finish.Statement.{statement}
+use Rattle.sheet.proofs.finish.Tie as tie
+
+pub finish-spec : {M : Type 1} → statement M
+finish-spec =
+    tie.close
+    (tie.spec
+    (λ c. search needs)
+    (λ c. search answers)
+    (λ c. search needs)
+    (λ c. search answers)
+    (λ c κs. search answers)
+    (λ c. search needs)
+    (λ c. search needs)
+    (λ c. search answers))

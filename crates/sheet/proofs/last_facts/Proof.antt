@@ -1,0 +1,22 @@
+use borrow.Author.Needs.{needs}
+use Rattle.sheet.proofs.FactLaws.{answers}
+use Rattle.sheet.proofs.last_facts.Statement.{statement}
+use Rattle.sheet.proofs.last_facts.Tie as tie
+
+pub last-facts-spec : {M : Type 1} → statement M
+last-facts-spec =
+    tie.close
+    (tie.spec
+    (λ c. search answers)
+    (λ c κs. search needs)
+    (λ c. search needs)
+    (λ c. search needs)
+    (λ c. search needs)
+    (λ c. search answers)
+    (λ c κs. search needs)
+    (λ c. search needs)
+    (λ c. search needs)
+    (λ c. search needs)
+    (λ c. search answers)
+    (λ c. search answers)
+    (λ c. search answers))

@@ -1,0 +1,22 @@
+use borrow.Author.Needs.{needs}
+use Rattle.sheet.proofs.FactLaws.{head-least, head-most}
+use Rattle.sheet.proofs.Reading.{answers}
+use Rattle.sheet.proofs.read_names.Statement.{statement}
+use Rattle.sheet.proofs.read_names.Tie as tie
+
+pub read-names-spec : {M : Type 1} → statement M
+read-names-spec =
+    tie.close
+    (tie.spec
+    (λ c κs. search needs)
+    (λ c. search needs)
+    (λ c. search needs)
+    (λ c κs. search (head-most, needs))
+    (λ c. search needs)
+    (λ c. search needs)
+    (λ c κs. search (head-least, head-most, needs))
+    (λ c. search answers)
+    (λ c. search needs)
+    (λ c. search answers)
+    (λ c. search needs)
+    (λ c. search answers))

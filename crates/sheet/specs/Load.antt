@@ -1,0 +1,156 @@
+-- The whole of loading: document 01, "What the caller gets" and "The sheet". For every list of bytes and every two lengths of
+-- tables: the answer, and what both tables hold after it. Definitions only.
+use Prim.Native.Nat.{ℕ, _+_, _-_, _*_}
+use mathlib.Core.Bool.{Bool, cond, _&&_}
+use mathlib.Core.List.{List, _++_}
+use lib.Dec.{leb, ltb}
+use lib.ListN.{length, replicate}
+use Rattle.kinds.specs.Kinds.{bytes}
+use Rattle.checks.specs.declared.Checked.{Checked}
+use Rattle.checks.specs.declared.Checked.the-variants as C
+use Rattle.checks.specs.Checks.{numberOf, childrenOf}
+use Rattle.lines.specs.declared.Fault.{Fault}
+use Rattle.lines.specs.declared.Fault.the-variants.{WrongLine}
+use Rattle.lines.specs.declared.NumberLine.{NumberLine}
+use Rattle.lines.specs.declared.NumberLine.the-variants as N
+use Rattle.lines.specs.Lines.{faultNumber, numberLine}
+use Rattle.sections.specs.Sections.{Lines, read, refused, namesFrom, rowsFrom}
+use Rattle.sheet.specs.declared.Record.{Record}
+use Rattle.sheet.specs.declared.Refusal.{Refusal}
+use Rattle.sheet.specs.declared.Refusal.the-variants.{TooLong, Line, NoRoom, Rows, WrongRecord, NoName}
+use Rattle.sheet.specs.declared.Loaded.{Loaded}
+use Rattle.sheet.specs.declared.Loaded.the-variants.{Done, Refused}
+use Rattle.sheet.specs.declared.Head.{Head}
+use Rattle.sheet.specs.declared.Head.the-variants as H
+use Rattle.sheet.specs.declared.Facts.{Facts}
+use Rattle.sheet.specs.declared.Facts.the-variants as F
+
+-- document 01's number of each refusal
+abbrev pub refusalNumber : Refusal → ℕ
+refusalNumber TooLong = 10
+refusalNumber (Line fault) = faultNumber fault
+refusalNumber NoRoom = 21
+refusalNumber (Rows fault) = numberOf fault
+refusalNumber WrongRecord = 22
+refusalNumber NoName = 24
+
+-- "first line first": what follows a line with a number, or its refusal
+abbrev pub afterNumber : {A : Type 0} → (Fault → ℕ → A) → NumberLine → ℕ → (ℕ → ℕ → A) → A
+afterNumber refuse (N.Value v next) line more = more v next
+afterNumber refuse (N.Wrong fault) line more = refuse fault line
+
+-- "`sheet=1`, `names=`": lines 1 and 2, "sheet not 1, names outside 1..500"
+unfoldable pub headOf : List ℕ → Head
+headOf s =
+    afterNumber H.Refused (numberLine (bytes "sheet=") 1 1 s 0) 1
+    (λ version at. afterNumber H.Refused (numberLine (bytes "names=") 1 500 s at) 2 (λ names next. H.Read names next))
+
+-- "`sole=`, `rows=`": "sole above 1, rows outside 1..2,000"
+unfoldable pub lastFacts : ℕ → ℕ → ℕ → List ℕ → ℕ → Facts
+lastFacts names local start s at =
+    afterNumber F.Refused (numberLine (bytes "sole=") 0 1 s at) (names + 5)
+    (λ sole at. afterNumber F.Refused (numberLine (bytes "rows=") 1 2000 s at) (names + 6)
+    (λ rows at. F.Read (record { names = names; rows = rows; local = local; start = start; sole = sole }) at))
+
+-- "`local=`, `start=`" before them: the lines after the names; "local not below names, start above 1"
+unfoldable pub factsFrom : ℕ → List ℕ → ℕ → Facts
+factsFrom names s at =
+    afterNumber F.Refused (numberLine (bytes "local=") 0 (names - 1) s at) (names + 3)
+    (λ local at. afterNumber F.Refused (numberLine (bytes "start=") 0 1 s at) (names + 4)
+    (λ start at. lastFacts names local start s at))
+
+-- what the lines before the rows tell: the record, the numbers of the names, and where the rows start; or the first refusal,
+-- and its line
+pub data Before : Type 0 where
+  before : Record → (names : List ℕ) → (next : ℕ) → Before
+  stopped : Fault → (line : ℕ) → Before
+
+abbrev pub afterHead : Head → (ℕ → ℕ → Before) → Before
+afterHead (H.Read names next) more = more names next
+afterHead (H.Refused fault line) more = stopped fault line
+
+abbrev pub afterNames : Lines → (List ℕ → ℕ → Before) → Before
+afterNames (read numbers next) more = more numbers next
+afterNames (refused fault line) more = stopped fault line
+
+abbrev pub withNames : List ℕ → Facts → Before
+withNames numbers (F.Read r next) = before r numbers next
+withNames numbers (F.Refused fault line) = stopped fault line
+
+-- "Order: `sheet=1`, `names=`, that many `name=`, `local=`, `start=`, `sole=`, `rows=`"
+unfoldable pub beforeRows : List ℕ → Before
+beforeRows s =
+    afterHead (headOf s)
+    (λ names at. afterNames (namesFrom names s at)
+    (λ numbers at. withNames numbers (factsFrom names s at)))
+
+-- what all lines tell
+pub data Parsed : Type 0 where
+  parsed : Record → (names rows : List ℕ) → Parsed
+  wrong : Fault → (line : ℕ) → Parsed
+
+abbrev pub afterBefore : Before → (Record → List ℕ → ℕ → Parsed) → Parsed
+afterBefore (before r numbers next) more = more r numbers next
+afterBefore (stopped fault line) more = wrong fault line
+
+abbrev pub afterRows : Lines → (List ℕ → ℕ → Parsed) → Parsed
+afterRows (read numbers next) more = more numbers next
+afterRows (refused fault line) more = wrong fault line
+
+-- the line on which a row stands: six lines and the names stand before row 0
+abbrev pub lineOf : Record → ℕ → ℕ
+lineOf r row = r .names + 7 + row
+
+-- "that many `row=`", and no more: "1: missing or extra line"
+unfoldable pub linesOf : List ℕ → Parsed
+linesOf s =
+    afterBefore (beforeRows s)
+    (λ r names at. afterRows (rowsFrom (r .names) (r .rows) s at)
+    (λ rows at. cond (ltb at (length s)) (wrong WrongLine (lineOf r (r .rows))) (parsed r names rows)))
+
+-- what a load gives: the answer, and what both tables hold
+pub record Result : Type 0 where
+  pub answer : Loaded
+  pub rows : List ℕ
+  pub names : List ℕ
+
+-- "A refused load .. leave[s] zeros"
+unfoldable pub refuse : ℕ → ℕ → Refusal → ℕ → Result
+refuse rowRoom nameRoom refusal line = record { answer = Refused refusal line; rows = replicate rowRoom 0; names = replicate nameRoom 0 }
+
+-- "and the unused tail after a good one": a table with so much room, and these numbers in front
+unfoldable pub tableOf : ℕ → List ℕ → List ℕ
+tableOf room numbers = numbers ++ replicate (room - length numbers) 0
+
+-- "21: the row table has fewer than 5 numbers a row, or the name table fewer than 3 a name"
+unfoldable pub hasRoom : ℕ → ℕ → Record → Bool
+hasRoom rowRoom nameRoom r = leb (5 * r .rows) rowRoom && leb (3 * r .names) nameRoom
+
+-- "7 and 8 in row order, 7 before 8; then 9 in row order"; "row i stands on line names + 7 + i, for 7 to 9 too"
+abbrev pub afterChecks : Checked → Record → Loaded
+afterChecks C.Passed r = Done r
+afterChecks (C.Refused fault row) r = Refused (Rows fault) (lineOf r row)
+
+-- the answer for lines that were read into tables with room
+unfoldable pub checkedAnswer : Record → List ℕ → Loaded
+checkedAnswer r rows = afterChecks (childrenOf rows (r .rows)) r
+
+-- an answer with its tables: these after a good load, zeros after a refused one
+abbrev pub withTables : ℕ → ℕ → Loaded → List ℕ → List ℕ → Result
+withTables rowRoom nameRoom (Done r) rows names = record { answer = Done r; rows = rows; names = names }
+withTables rowRoom nameRoom (Refused refusal line) rows names = refuse rowRoom nameRoom refusal line
+
+-- what follows good lines: 21, then the checks
+unfoldable pub finishOf : ℕ → ℕ → Record → List ℕ → List ℕ → Result
+finishOf rowRoom nameRoom r nameNumbers rowNumbers =
+    cond (hasRoom rowRoom nameRoom r)
+    (withTables rowRoom nameRoom (checkedAnswer r (tableOf rowRoom rowNumbers)) (tableOf rowRoom rowNumbers) (tableOf nameRoom nameNumbers))
+    (refuse rowRoom nameRoom NoRoom 0)
+
+abbrev pub afterParse : ℕ → ℕ → Parsed → Result
+afterParse rowRoom nameRoom (wrong fault line) = refuse rowRoom nameRoom (Line fault) line
+afterParse rowRoom nameRoom (parsed r nameNumbers rowNumbers) = finishOf rowRoom nameRoom r nameNumbers rowNumbers
+
+-- "Order: 10; then 1 to 6, first line first, lowest number on one line; 21; then 7 and 8 in row order, 7 before 8; then 9 in row order"
+unfoldable pub loadOf : List ℕ → ℕ → ℕ → Result
+loadOf s rowRoom nameRoom = cond (leb (length s) 65536) (afterParse rowRoom nameRoom (linesOf s)) (refuse rowRoom nameRoom TooLong 0)
