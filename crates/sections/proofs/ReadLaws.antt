@@ -20,7 +20,8 @@ use Rattle.lines.specs.declared.RowLine.{RowLine}
 use Rattle.lines.specs.declared.RowLine.the-variants as R
 use Rattle.lines.specs.Lines.{jumpMark, nameLine, rowAt}
 use Rattle.lines.proofs.Told.{field-within, field-back, field-after, NameTold, name-told, name-text, row-told}
-use Rattle.sections.specs.Sections.{Line, holds, wrong, Lines, read, refused, prepend, afterLine, linesFrom, nameNumbers, nameText, ofName, nameStep, rowNumbers, ofRow, rowStep, offsetAt, sizeAt, markAt, textAt}
+use Rattle.sheet_record.specs.Records.{offsetAt, sizeAt, markAt, textAt}
+use Rattle.sections.specs.Sections.{Line, holds, wrong, Lines, read, refused, prepend, afterLine, linesFrom, nameNumbers, nameText, ofName, nameStep, rowNumbers, ofRow, rowStep}
 use Rattle.sections.proofs.Going.{never}
 
 -- the first of n lines that were read: what it holds, and the lines after it

@@ -5,7 +5,7 @@ use mathlib.Core.Path.{_≡_}
 use mathlib.Core.Bool.{cond}
 use mathlib.Core.List.{List, [], _∷_, _++_}
 use lib.Dec.{leb}
-use lib.ListN.{length, take, drop, getD}
+use lib.ListN.{length, take, drop}
 use lib.Seq.{sets}
 use Rattle.lines.specs.declared.Fault.{Fault}
 use Rattle.lines.specs.declared.Name.{Name}
@@ -95,19 +95,3 @@ put table w numbers = cond (leb (w + length numbers) (length table)) (sets table
 -- a sheet that is not too long: its places fit the name table
 pub record Short (s : List ℕ) : Type 0 where
   pub bytes : length s ≤ 65536
-
--- where a name of a name table starts in the sheet
-abbrev pub offsetAt : List ℕ → ℕ → ℕ
-offsetAt table i = getD table (3 * i) 0
-
--- how many bytes it has
-abbrev pub sizeAt : List ℕ → ℕ → ℕ
-sizeAt table i = getD table (3 * i + 1) 0
-
--- its jump mark
-abbrev pub markAt : List ℕ → ℕ → ℕ
-markAt table i = getD table (3 * i + 2) 0
-
--- its bytes in the sheet
-abbrev pub textAt : List ℕ → List ℕ → ℕ → List ℕ
-textAt s table i = take (sizeAt table i) (drop (offsetAt table i) s)

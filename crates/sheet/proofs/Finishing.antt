@@ -11,7 +11,7 @@ use Rattle.checks.specs.declared.Checked.{Checked}
 use Rattle.checks.specs.declared.Checked.the-variants as C
 use Rattle.checks.specs.Checks.{childrenOf}
 use Rattle.checks.proofs.Places.{children-row}
-use Rattle.sheet.specs.declared.Record.{Record}
+use Rattle.sheet_record.specs.declared.Record.{Record}
 use Rattle.sheet.specs.declared.Refusal.{Refusal}
 use Rattle.sheet.specs.declared.Refusal.the-variants.{NoRoom, Rows}
 use Rattle.sheet.specs.declared.Loaded.{Loaded}

@@ -1,5 +1,4 @@
 pub mod Zeros
-pub mod FactLaws
 pub mod Reading
 pub mod Finishing
 pub mod Loading

@@ -11,16 +11,17 @@ use Rattle.lines.proofs.InRange.{Ranged}
 use Rattle.sections.specs.declared.Section.{Section}
 use Rattle.sections.specs.declared.Section.the-variants as S
 use Rattle.sections.specs.Sections.{Lines, read, refused, namesFrom, rowsFrom, sectionOf, Filled}
-use Rattle.sheet.specs.declared.Record.{Record}
+use Rattle.sheet_record.specs.declared.Record.{Record}
 use Rattle.sheet.specs.declared.Refusal.the-variants.{Line}
 use Rattle.sheet.specs.declared.Loaded.the-variants.{Done, Refused}
-use Rattle.sheet.specs.declared.Head.{Head}
-use Rattle.sheet.specs.declared.Head.the-variants as H
-use Rattle.sheet.specs.declared.Facts.{Facts}
-use Rattle.sheet.specs.declared.Facts.the-variants as F
-use Rattle.sheet.specs.Load.{headOf, factsFrom, Before, before, stopped, afterHead, afterNames, withNames, beforeRows, parsed, wrong, lineOf, linesOf}
+use Rattle.header.specs.declared.Head.{Head}
+use Rattle.header.specs.declared.Head.the-variants as H
+use Rattle.header.specs.declared.Facts.{Facts}
+use Rattle.header.specs.declared.Facts.the-variants as F
+use Rattle.header.specs.Header.{headOf, factsFrom}
+use Rattle.sheet.specs.Load.{Before, before, stopped, afterHead, afterNames, withNames, beforeRows, parsed, wrong, lineOf, linesOf}
 use Rattle.sheet.specs.Steps.{factsOf, answerOf, NamesFilled, BothFilled}
-use Rattle.sheet.proofs.FactLaws.{FactsTold, head-told, facts-told}
+use Rattle.header.proofs.FactLaws.{FactsTold, head-told, facts-told}
 
 apart : {A : Type 0} → _≡_ {A = ℕ} 0 1 → A
 apart z = absurd (omega (arith, z))

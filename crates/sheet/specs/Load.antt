@@ -11,19 +11,18 @@ use Rattle.checks.specs.declared.Checked.the-variants as C
 use Rattle.checks.specs.Checks.{numberOf, childrenOf}
 use Rattle.lines.specs.declared.Fault.{Fault}
 use Rattle.lines.specs.declared.Fault.the-variants.{WrongLine}
-use Rattle.lines.specs.declared.NumberLine.{NumberLine}
-use Rattle.lines.specs.declared.NumberLine.the-variants as N
-use Rattle.lines.specs.Lines.{faultNumber, numberLine}
+use Rattle.lines.specs.Lines.{faultNumber}
+use Rattle.header.specs.Header.{headOf, factsFrom}
 use Rattle.sections.specs.Sections.{Lines, read, refused, namesFrom, rowsFrom}
-use Rattle.sheet.specs.declared.Record.{Record}
+use Rattle.sheet_record.specs.declared.Record.{Record}
 use Rattle.sheet.specs.declared.Refusal.{Refusal}
 use Rattle.sheet.specs.declared.Refusal.the-variants.{TooLong, Line, NoRoom, Rows, WrongRecord, NoName}
 use Rattle.sheet.specs.declared.Loaded.{Loaded}
 use Rattle.sheet.specs.declared.Loaded.the-variants.{Done, Refused}
-use Rattle.sheet.specs.declared.Head.{Head}
-use Rattle.sheet.specs.declared.Head.the-variants as H
-use Rattle.sheet.specs.declared.Facts.{Facts}
-use Rattle.sheet.specs.declared.Facts.the-variants as F
+use Rattle.header.specs.declared.Head.{Head}
+use Rattle.header.specs.declared.Head.the-variants as H
+use Rattle.header.specs.declared.Facts.{Facts}
+use Rattle.header.specs.declared.Facts.the-variants as F
 
 -- document 01's number of each refusal
 abbrev pub refusalNumber : Refusal → ℕ
@@ -33,31 +32,6 @@ refusalNumber NoRoom = 21
 refusalNumber (Rows fault) = numberOf fault
 refusalNumber WrongRecord = 22
 refusalNumber NoName = 24
-
--- "first line first": what follows a line with a number, or its refusal
-abbrev pub afterNumber : {A : Type 0} → (Fault → ℕ → A) → NumberLine → ℕ → (ℕ → ℕ → A) → A
-afterNumber refuse (N.Value v next) line more = more v next
-afterNumber refuse (N.Wrong fault) line more = refuse fault line
-
--- "`sheet=1`, `names=`": lines 1 and 2, "sheet not 1, names outside 1..500"
-unfoldable pub headOf : List ℕ → Head
-headOf s =
-    afterNumber H.Refused (numberLine (bytes "sheet=") 1 1 s 0) 1
-    (λ version at. afterNumber H.Refused (numberLine (bytes "names=") 1 500 s at) 2 (λ names next. H.Read names next))
-
--- "`sole=`, `rows=`": "sole above 1, rows outside 1..2,000"
-unfoldable pub lastFacts : ℕ → ℕ → ℕ → List ℕ → ℕ → Facts
-lastFacts names local start s at =
-    afterNumber F.Refused (numberLine (bytes "sole=") 0 1 s at) (names + 5)
-    (λ sole at. afterNumber F.Refused (numberLine (bytes "rows=") 1 2000 s at) (names + 6)
-    (λ rows at. F.Read (record { names = names; rows = rows; local = local; start = start; sole = sole }) at))
-
--- "`local=`, `start=`" before them: the lines after the names; "local not below names, start above 1"
-unfoldable pub factsFrom : ℕ → List ℕ → ℕ → Facts
-factsFrom names s at =
-    afterNumber F.Refused (numberLine (bytes "local=") 0 (names - 1) s at) (names + 3)
-    (λ local at. afterNumber F.Refused (numberLine (bytes "start=") 0 1 s at) (names + 4)
-    (λ start at. lastFacts names local start s at))
 
 -- what the lines before the rows tell: the record, the numbers of the names, and where the rows start; or the first refusal,
 -- and its line

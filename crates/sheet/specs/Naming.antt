@@ -1,19 +1,14 @@
 -- A name's text as a part of the sheet: document 01, "A third call returns a name's text", refusals 22 and 24. Definitions only.
 use Prim.Native.Nat.{ℕ, _+_, _*_}
-use mathlib.Core.Bool.{Bool, cond, _&&_}
+use mathlib.Core.Bool.{cond, _&&_}
 use mathlib.Core.List.{List, []}
 use lib.Dec.{leb, ltb}
 use lib.ListN.{length, take, drop}
-use Rattle.sections.specs.Sections.{offsetAt, sizeAt}
-use Rattle.sheet.specs.declared.Record.{Record}
+use Rattle.sheet_record.specs.Records.{recordFits, offsetAt, sizeAt}
+use Rattle.sheet_record.specs.declared.Record.{Record}
 use Rattle.sheet.specs.declared.Refusal.the-variants.{WrongRecord, NoName}
 use Rattle.sheet.specs.declared.Named.{Named}
 use Rattle.sheet.specs.declared.Named.the-variants.{At, Refused}
-
--- "22: the record has counts outside the ranges of 3, a local not below names, a start or sole above 1"
-unfoldable pub recordFits : Record → Bool
-recordFits r =
-    leb 1 (r .names) && (leb (r .names) 500 && (leb 1 (r .rows) && (leb (r .rows) 2000 && (ltb (r .local) (r .names) && (leb (r .start) 1 && leb (r .sole) 1)))))
 
 -- the place of a name: 22, "or tables too short for it", which for a name is the name table; then 24, "number not below names,
 -- or its place passes the end of the bytes lent"

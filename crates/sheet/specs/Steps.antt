@@ -4,12 +4,12 @@ use mathlib.Core.Path.{_≡_}
 use mathlib.Core.Bool.{Bool, true, false}
 use mathlib.Core.List.{List}
 use lib.ListN.{length, take}
-use Rattle.sheet.specs.declared.Record.{Record}
+use Rattle.sheet_record.specs.declared.Record.{Record}
 use Rattle.sheet.specs.declared.Refusal.the-variants.{Line}
 use Rattle.sheet.specs.declared.Loaded.{Loaded}
 use Rattle.sheet.specs.declared.Loaded.the-variants.{Done, Refused}
-use Rattle.sheet.specs.declared.Facts.{Facts}
-use Rattle.sheet.specs.declared.Facts.the-variants as F
+use Rattle.header.specs.declared.Facts.{Facts}
+use Rattle.header.specs.declared.Facts.the-variants as F
 use Rattle.sheet.specs.Load.{Before, before, stopped, beforeRows, Parsed, parsed, wrong, linesOf, Result, finishOf}
 
 -- all but the numbers

@@ -1,26 +1,18 @@
 // Load and name: from the bytes of a sheet to two lent tables and a record, and from these to a name's text.
 use checks::Checked;
+use header::Facts;
+use header::Head;
 use lines::Fault;
-use lines::NumberLine;
 use sections::Section;
+use sheet_record::Record;
 ghost use mathlib.Core.Path.{_≡_};
 ghost use mathlib.Core.List.{_++_};
 ghost use Prim.Native.Nat.{_+_, _-_, _*_, _≤_, _<_};
-ghost use lib.Dec.{leb};
 ghost use lib.ListN.{length, take, replicate};
-ghost use Rattle.sections.specs.Sections.{Short, offsetAt, sizeAt};
-ghost use Rattle.sheet.specs.Load.{refusalNumber, headOf, lastFacts, factsFrom, beforeRows, lineOf, linesOf, checkedAnswer, loadOf};
+ghost use Rattle.sections.specs.Sections.{Short};
+ghost use Rattle.sheet.specs.Load.{refusalNumber, beforeRows, lineOf, linesOf, checkedAnswer, loadOf};
 ghost use Rattle.sheet.specs.Steps.{factsOf, answerOf, NamesFilled, BothFilled, Room, GoodFilled, finishFronts, isRefused};
-ghost use Rattle.sheet.specs.Naming.{recordFits, placeOf, partAt, textOf};
-
-// What loading tells beside the tables: "counts of names and rows, local, start, sole".
-pub struct Record {
-    pub names: usize,
-    pub rows: usize,
-    pub local: usize,
-    pub start: usize,
-    pub sole: usize,
-}
+ghost use Rattle.sheet.specs.Naming.{placeOf, partAt, textOf};
 
 // Why a load or a name is refused.
 pub enum Refusal {
@@ -52,92 +44,20 @@ pub enum Loaded {
     Refused(Refusal, usize),
 }
 
-enum Head {
-    Read(usize, usize),
-    Refused(Fault, usize),
-}
-
-enum Facts {
-    Read(Record, usize),
-    Refused(Fault, usize),
-}
-
-// Lines 1 and 2: the count of names.
-fn head_of(s: &[u8]) -> Head
-    ensures { λ r. ⌜ r ≡ headOf (now (s .entry)) ⌝ }
-{
-    let version = lines::number_line(s, 0, b"sheet=", 1, 1);
-    match version {
-        NumberLine::Wrong(fault) => Head::Refused(fault, 1),
-        NumberLine::Value(one, at) => {
-            let count = lines::number_line(s, at, b"names=", 1, 500);
-            match count {
-                NumberLine::Wrong(fault) => Head::Refused(fault, 2),
-                NumberLine::Value(names, next) => Head::Read(names, next),
-            }
-        }
-    }
-}
-
-// The lines `sole=` and `rows=`, after the others.
-fn last_facts(s: &[u8], at: usize, names: usize, local: usize, start: usize) -> Facts
-    requires { ⌜ names ≤ 500 ⌝ }
-    ensures { λ r. ⌜ r ≡ lastFacts names local start (now (s .entry)) at ⌝ }
-{
-    let third = lines::number_line(s, at, b"sole=", 0, 1);
-    match third {
-        NumberLine::Wrong(fault) => Facts::Refused(fault, names + 5),
-        NumberLine::Value(sole, rows_at) => {
-            let fourth = lines::number_line(s, rows_at, b"rows=", 1, 2000);
-            match fourth {
-                NumberLine::Wrong(fault) => Facts::Refused(fault, names + 6),
-                NumberLine::Value(rows, next) => Facts::Read(
-                    Record {
-                        names: names,
-                        rows: rows,
-                        local: local,
-                        start: start,
-                        sole: sole,
-                    },
-                    next,
-                ),
-            }
-        }
-    }
-}
-
-// The four lines after the names.
-fn facts_from(s: &[u8], at: usize, names: usize) -> Facts
-    requires { ⌜ (1 ≤ names) × (names ≤ 500) ⌝ }
-    ensures { λ r. ⌜ r ≡ factsFrom names (now (s .entry)) at ⌝ }
-{
-    let first = lines::number_line(s, at, b"local=", 0, names - 1);
-    match first {
-        NumberLine::Wrong(fault) => Facts::Refused(fault, names + 3),
-        NumberLine::Value(local, start_at) => {
-            let second = lines::number_line(s, start_at, b"start=", 0, 1);
-            match second {
-                NumberLine::Wrong(fault) => Facts::Refused(fault, names + 4),
-                NumberLine::Value(start, next) => last_facts(s, next, names, local, start),
-            }
-        }
-    }
-}
-
 // The lines before the rows.
 fn read_names(s: &[u8], names: &mut [u32]) -> Facts
     requires { ⌜ Short (now s) ⌝ }
     ensures { λ r. ⌜ r ≡ factsOf (beforeRows (now (s .entry))) ⌝ }
     ensures filled { λ r. ⌜ NamesFilled (now (s .entry)) (now (names .exit)) ⌝ }
 {
-    let first = head_of(s);
+    let first = header::head_of(s);
     match first {
         Head::Refused(fault, line) => Facts::Refused(fault, line),
         Head::Read(count, at) => {
             let section = sections::names_from(s, at, count, names);
             match section {
                 Section::Refused(fault, line) => Facts::Refused(fault, line),
-                Section::Read(next) => facts_from(s, next, count),
+                Section::Read(next) => header::facts_from(s, next, count),
             }
         }
     }
@@ -277,68 +197,21 @@ pub enum Named {
     Refused(Refusal),
 }
 
-// Whether a record's numbers are in the ranges that loading keeps.
-pub fn record_fits(record: Record) -> bool
-    ensures { λ r. ⌜ r ≡ recordFits «record» ⌝ }
-{
-    if record.names < 1 {
-        return false;
-    }
-    if 500 < record.names {
-        return false;
-    }
-    if record.rows < 1 {
-        return false;
-    }
-    if 2000 < record.rows {
-        return false;
-    }
-    if record.names <= record.local {
-        return false;
-    }
-    if 1 < record.start {
-        return false;
-    }
-    record.sole <= 1
-}
-
-// Whether a name table has its three numbers for each name.
-fn names_held(record: Record, numbers: usize) -> bool
-    requires { ⌜ «record» .names ≤ 500 ⌝ }
-    ensures { λ r. ⌜ r ≡ leb (3 * «record» .names) numbers ⌝ }
-{
-    3 * record.names <= numbers
-}
-
-fn offset_at(names: &[u32], number: usize) -> usize
-    requires { ⌜ 3 * number + 2 < length (now names) ⌝ }
-    ensures { λ r. ⌜ r ≡ offsetAt (now (names .entry)) number ⌝ }
-{
-    table::wide(names[3 * number])
-}
-
-fn size_at(names: &[u32], number: usize) -> usize
-    requires { ⌜ 3 * number + 2 < length (now names) ⌝ }
-    ensures { λ r. ⌜ r ≡ sizeAt (now (names .entry)) number ⌝ }
-{
-    table::wide(names[3 * number + 1])
-}
-
 // The place of a name in the bytes that the sheet was loaded from.
 pub fn name_place(sheet: &[u8], record: Record, names: &[u32], number: usize) -> Named
     ensures { λ r. ⌜ r ≡ placeOf (now (sheet .entry)) «record» (now (names .entry)) number ⌝ }
 {
-    if !record_fits(record) {
+    if !sheet_record::record_fits(record) {
         return Named::Refused(Refusal::WrongRecord);
     }
-    if !names_held(record, names.len()) {
+    if !sheet_record::names_held(record, names.len()) {
         return Named::Refused(Refusal::WrongRecord);
     }
     if record.names <= number {
         return Named::Refused(Refusal::NoName);
     }
-    let offset = offset_at(names, number);
-    let size = size_at(names, number);
+    let offset = sheet_record::offset_at(names, number);
+    let size = sheet_record::size_at(names, number);
     if sheet.len() < offset {
         return Named::Refused(Refusal::NoName);
     }

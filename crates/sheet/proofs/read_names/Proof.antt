@@ -1,5 +1,5 @@
 use borrow.Author.Needs.{needs}
-use Rattle.sheet.proofs.FactLaws.{head-least, head-most}
+use Rattle.header.proofs.FactLaws.{head-least, head-most}
 use Rattle.sheet.proofs.Reading.{answers}
 use Rattle.sheet.proofs.read_names.Statement.{statement}
 use Rattle.sheet.proofs.read_names.Tie as tie

@@ -1,7 +1,7 @@
 use borrow.Author.Needs.{needs}
-use Rattle.sheet.proofs.FactLaws.{answers}
-use Rattle.sheet.proofs.last_facts.Statement.{statement}
-use Rattle.sheet.proofs.last_facts.Tie as tie
+use Rattle.header.proofs.FactLaws.{answers}
+use Rattle.header.proofs.last_facts.Statement.{statement}
+use Rattle.header.proofs.last_facts.Tie as tie
 
 pub last-facts-spec : {M : Type 1} → statement M
 last-facts-spec =

@@ -1,24 +1,20 @@
 use borrow.Author.Needs.{needs}
-use Rattle.sheet.proofs.FactLaws.{answers}
-use Rattle.sheet.proofs.facts_from.Statement.{statement}
-use Rattle.sheet.proofs.facts_from.Tie as tie
+use Rattle.header.proofs.FactLaws.{answers}
+use Rattle.header.proofs.head_of.Statement.{statement}
+use Rattle.header.proofs.head_of.Tie as tie
 
-pub facts-from-spec : {M : Type 1} → statement M
-facts-from-spec =
+pub head-of-spec : {M : Type 1} → statement M
+head-of-spec =
     tie.close
     (tie.spec
     (λ c. search answers)
-    (λ c. search needs)
     (λ c κs. search needs)
-    (λ c. search needs)
     (λ c. search needs)
     (λ c. search needs)
     (λ c. search answers)
     (λ c κs. search needs)
     (λ c. search needs)
     (λ c. search needs)
-    (λ c. search needs)
-    (λ c κs. search needs)
     (λ c. search answers)
     (λ c. search answers)
     (λ c. search answers))

@@ -1,6 +1,6 @@
-use Rattle.sheet.proofs.PlaceLaws.{answers}
-use Rattle.sheet.proofs.record_fits.Statement.{statement}
-use Rattle.sheet.proofs.record_fits.Tie as tie
+use Rattle.sheet_record.proofs.Ranges.{answers}
+use Rattle.sheet_record.proofs.record_fits.Statement.{statement}
+use Rattle.sheet_record.proofs.record_fits.Tie as tie
 
 pub record-fits-spec : {M : Type 1} → statement M
 record-fits-spec =

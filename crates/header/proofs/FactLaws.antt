@@ -9,12 +9,12 @@ use Rattle.lines.specs.declared.NumberLine.{NumberLine}
 use Rattle.lines.specs.declared.NumberLine.the-variants as N
 use Rattle.lines.specs.Lines.{numberLine}
 use Rattle.lines.proofs.InRange.{Ranged, value-ranged}
-use Rattle.sheet.specs.declared.Record.{Record}
-use Rattle.sheet.specs.declared.Head.{Head}
-use Rattle.sheet.specs.declared.Head.the-variants as H
-use Rattle.sheet.specs.declared.Facts.{Facts}
-use Rattle.sheet.specs.declared.Facts.the-variants as F
-use Rattle.sheet.specs.Load.{afterNumber, headOf, lastFacts, factsFrom}
+use Rattle.sheet_record.specs.declared.Record.{Record}
+use Rattle.header.specs.declared.Head.{Head}
+use Rattle.header.specs.declared.Head.the-variants as H
+use Rattle.header.specs.declared.Facts.{Facts}
+use Rattle.header.specs.declared.Facts.the-variants as F
+use Rattle.header.specs.Header.{afterNumber, headOf, lastFacts, factsFrom}
 
 -- lines 1 and 2
 module _ (s : List ℕ) (a : NumberLine) (p : a ≡ numberLine (bytes "sheet=") 1 1 s 0) where
