@@ -3,3 +3,4 @@ pub mod Reading
 pub mod Finishing
 pub mod Loading
 pub mod PlaceLaws
+pub mod GoodLoad

@@ -1,0 +1,26 @@
+use borrow.Author.Needs.{needs}
+use Prim.Native.Nat.{_-_, _≤_, _<_}
+use lib.ListN.{length}
+use Rattle.load_cases.proofs.digest.Statement.{statement}
+use Rattle.load_cases.proofs.digest.Tie as tie
+
+abbrev Inv-loop : tie.InvT-loop
+Inv-loop numbers d₀ i₀ d i = (i ≤ length numbers) × (d < 4294967296)
+
+abbrev μ-loop : tie.MeasureT-loop
+μ-loop numbers d₀ i₀ d i = length numbers - i
+
+pub digest-spec : {M : Type 1} → statement M
+digest-spec =
+    tie.close
+    (tie.spec
+    Inv-loop
+    μ-loop
+    (λ c. search needs)
+    (λ c. search needs)
+    (λ c. search needs)
+    (λ c κs. search needs)
+    (λ c. search needs)
+    (λ c. search needs)
+    (λ c. search needs)
+    (λ c. search needs))

@@ -1,0 +1,417 @@
+// Loading and naming: one line out for each line of standard input.
+//
+// A load case is `title|R|N|sheet`: the sheet is loaded into a row table of R numbers and a name table of N numbers, all of them 7
+// before. Out come the record, or document 01's number of the refusal and its line; then a digest of each table, whole, so that
+// zeros left undone show; and after a good load the first three names, the last and the number after it, as `number=text`, or
+// as `number!refusal` with the text that is handed out all the same.
+//
+// A name case begins with `@`: `@title|names rows local start sole|name table|number|sheet`. Out come offset, length and text of
+// that name, or the refusal and the text.
+//
+// In a sheet, and in a name table, `;` stands for byte 10, `\hh` for a byte by its two hexadecimal digits, and `[n:text]` for the
+// text n times. In a text so repeated `#` is the number of the repetition from 0, in four digits, and `^` that number plus 2, which
+// is the end of a childless row under row 0; elsewhere that number is 0.
+use libc::STDIN_FILENO;
+use libc::STDOUT_FILENO;
+use sheet::Loaded;
+use sheet::Named;
+use sheet::Refusal;
+use sheet_record::Record;
+ghost use Prim.Native.Nat.{_≤_, _<_};
+ghost use lib.ListN.{length};
+
+fn say(text: &[u8]) {
+    io::write_all(STDOUT_FILENO, text);
+}
+
+fn number(n: usize) {
+    io::print_decimal(STDOUT_FILENO, n as u64);
+}
+
+fn refusal_number(refusal: Refusal) {
+    number(table::wide(sheet::number_of(refusal)));
+}
+
+// The place of the first such byte, or the length.
+fn find(text: &[u8], byte: u8) -> usize
+    ensures { λ r. ⌜ r ≤ length (now (text .entry)) ⌝ }
+{
+    let mut i = 0;
+    while i < text.len() {
+        if text[i] == byte {
+            return i;
+        }
+        i += 1;
+    }
+    i
+}
+
+fn before(text: &[u8], byte: u8) -> &[u8] {
+    let n = find(text, byte);
+    &text[0..n]
+}
+
+fn after(text: &[u8], byte: u8) -> &[u8] {
+    let n = find(text, byte);
+    if n < text.len() {
+        let rest = n + 1;
+        return &text[rest..];
+    }
+    &text[n..]
+}
+
+fn nth(text: &[u8], i: usize) -> u8 {
+    if i < text.len() { text[i] } else { 0 }
+}
+
+fn least(a: usize, b: usize) -> usize
+    ensures { λ r. ⌜ r ≤ a ⌝ }
+    ensures { λ r. ⌜ r ≤ b ⌝ }
+{
+    if a < b { a } else { b }
+}
+
+fn digit(b: u8) -> usize
+    ensures { λ r. ⌜ r ≤ 15 ⌝ }
+{
+    (b % 16) as usize
+}
+
+// The number that a text spells; the largest where it spells more, so that a record can hold that one too.
+fn decimal(text: &[u8]) -> usize {
+    let mut v: usize = 0;
+    let mut i = 0;
+    while i < text.len() {
+        if 1844674407370955160 < v {
+            return 18446744073709551615;
+        }
+        v = v * 10 + digit(text[i]);
+        i += 1;
+    }
+    v
+}
+
+// A byte past the end is dropped: the place stays.
+fn put(out: &mut [u8], at: usize, byte: u8) -> usize {
+    if at < out.len() {
+        out[at] = byte;
+        return at + 1;
+    }
+    at
+}
+
+fn put_all(out: &mut [u8], from: usize, text: &[u8]) -> usize {
+    let mut at = from;
+    let mut i = 0;
+    while i < text.len() {
+        at = put(out, at, text[i]);
+        i += 1;
+    }
+    at
+}
+
+fn figure(n: usize) -> u8 {
+    48 + (n % 10) as u8
+}
+
+fn put_four(out: &mut [u8], from: usize, n: usize) -> usize {
+    let a = put(out, from, figure(n / 1000));
+    let b = put(out, a, figure(n / 100));
+    let c = put(out, b, figure(n / 10));
+    put(out, c, figure(n))
+}
+
+fn put_plain(out: &mut [u8], from: usize, n: usize) -> usize {
+    let mut text = [0u8; 20];
+    let k = io::decimal(n as u64, &mut text);
+    put_all(out, from, &text[..k])
+}
+
+fn hex_digit(b: u8) -> u8
+    ensures { λ r. ⌜ r ≤ 15 ⌝ }
+{
+    if 97 <= b { (b - 87) % 16 } else { b % 16 }
+}
+
+fn hex_byte(high: u8, low: u8) -> u8 {
+    hex_digit(high) * 16 + hex_digit(low)
+}
+
+// Puts what the sign at a text's start stands for.
+fn put_sign(out: &mut [u8], at: usize, text: &[u8], turn: usize) -> usize {
+    let byte = nth(text, 0);
+    match byte {
+        b';' => put(out, at, 10),
+        b'\\' => put(out, at, hex_byte(nth(text, 1), nth(text, 2))),
+        b'#' => put_four(out, at, turn),
+        b'^' => put_plain(out, at, turn % 10000 + 2),
+        _ => put(out, at, byte),
+    }
+}
+
+// How many bytes of the case's line a sign takes after its first.
+fn sign_rest(byte: u8) -> usize {
+    if byte == b'\\' { 2 } else { 0 }
+}
+
+// The place after so many bytes and one more, and never past the text's end.
+fn past(text: &[u8], at: usize, n: usize) -> usize
+    requires { ⌜ at < length (now text) ⌝ }
+    ensures { λ r. ⌜ at < r ⌝ }
+    ensures { λ r. ⌜ r ≤ length (now (text .entry)) ⌝ }
+{
+    if n < text.len() - at {
+        return at + n + 1;
+    }
+    text.len()
+}
+
+fn put_signs(out: &mut [u8], from: usize, text: &[u8], turn: usize) -> usize {
+    let mut end = from;
+    let mut at = 0;
+    while at < text.len() {
+        end = put_sign(out, end, &text[at..], turn);
+        at = past(text, at, sign_rest(text[at]));
+    }
+    end
+}
+
+// Puts what `[n:text` stands for.
+fn put_repeated(out: &mut [u8], from: usize, text: &[u8]) -> usize {
+    let count = decimal(before(after(text, b'['), b':'));
+    let part = after(text, b':');
+    let mut end = from;
+    let mut turn = 0;
+    while turn < count {
+        end = put_signs(out, end, part, turn);
+        turn += 1;
+    }
+    end
+}
+
+// Puts the sheet that a text stands for, and answers its length.
+fn build(out: &mut [u8], text: &[u8]) -> usize {
+    let mut end = 0;
+    let mut at = 0;
+    while at < text.len() {
+        if text[at] == b'[' {
+            let part = before(&text[at..], b']');
+            let n = part.len();
+            end = put_repeated(out, end, part);
+            at = past(text, at, n);
+        } else {
+            end = put_sign(out, end, &text[at..], 0);
+            at = past(text, at, sign_rest(text[at]));
+        }
+    }
+    end
+}
+
+// Each number counts as one more than it is, so that zeros and their count tell.
+fn digest_step(d: usize, x: u32) -> usize
+    requires { ⌜ d < 4294967296 ⌝ }
+    ensures { λ r. ⌜ r < 4294967296 ⌝ }
+{
+    (d * 31 + table::wide(x) + 1) % 4294967296
+}
+
+fn digest(numbers: &[u32]) -> usize {
+    let mut d = 0;
+    let mut i = 0;
+    while i < numbers.len() {
+        d = digest_step(d, numbers[i]);
+        i += 1;
+    }
+    d
+}
+
+fn say_record(record: Record) {
+    say(b": done names=");
+    number(record.names);
+    say(b" rows=");
+    number(record.rows);
+    say(b" local=");
+    number(record.local);
+    say(b" start=");
+    number(record.start);
+    say(b" sole=");
+    number(record.sole);
+}
+
+fn say_tables(rows: &[u32], names: &[u32]) {
+    say(b" tables ");
+    number(digest(rows));
+    say(b" ");
+    number(digest(names));
+}
+
+fn say_name(bytes: &[u8], record: Record, names: &[u32], i: usize) {
+    say(b" ");
+    number(i);
+    let place = sheet::name_place(bytes, record, names, i);
+    match place {
+        Named::At(offset, length) => say(b"="),
+        Named::Refused(refusal) => {
+            say(b"!");
+            refusal_number(refusal);
+        }
+    }
+    say(sheet::name(bytes, record, names, i));
+}
+
+// Whether a name number is one of the first three, the last or the one after it.
+fn is_shown(i: usize, count: usize) -> bool {
+    if count < i {
+        return false;
+    }
+    if count - i <= 1 {
+        return true;
+    }
+    i < 3
+}
+
+fn say_names(bytes: &[u8], record: Record, names: &[u32]) {
+    say(b" names");
+    let mut i = 0;
+    while i <= 500 {
+        if is_shown(i, record.names) {
+            say_name(bytes, record, names, i);
+        }
+        i += 1;
+    }
+}
+
+fn report(bytes: &[u8], loaded: Loaded, rows: &[u32], names: &[u32]) {
+    match loaded {
+        Loaded::Done(record) => {
+            say_record(record);
+            say_tables(rows, names);
+            say_names(bytes, record, names);
+        }
+        Loaded::Refused(refusal, line) => {
+            say(b": refused ");
+            refusal_number(refusal);
+            say(b" at ");
+            number(line);
+            say_tables(rows, names);
+        }
+    }
+}
+
+fn load_into(bytes: &[u8], rows: &mut [u32], names: &mut [u32]) {
+    let loaded = sheet::load(bytes, rows, names);
+    report(bytes, loaded, rows, names);
+}
+
+// After the sheet stands byte 10 throughout, so that a look past its end would find a line's end.
+fn load_case(text: &[u8]) {
+    let mut sheet_space = [10u8; 65540];
+    let mut row_space = [7u32; 10010];
+    let mut name_space = [7u32; 1510];
+    let bytes: &mut [u8] = &mut sheet_space;
+    let rows: &mut [u32] = &mut row_space;
+    let names: &mut [u32] = &mut name_space;
+    let rest = after(text, b'|');
+    let r = least(decimal(before(text, b'|')), rows.len());
+    let n = least(decimal(before(rest, b'|')), names.len());
+    let end = least(build(bytes, after(rest, b'|')), bytes.len());
+    let built = &bytes[..];
+    load_into(&built[0..end], &mut rows[0..r], &mut names[0..n]);
+}
+
+fn record_of(text: &[u8]) -> Record {
+    let a = after(text, b' ');
+    let b = after(a, b' ');
+    let c = after(b, b' ');
+    Record {
+        names: decimal(before(text, b' ')),
+        rows: decimal(before(a, b' ')),
+        local: decimal(before(b, b' ')),
+        start: decimal(before(c, b' ')),
+        sole: decimal(after(c, b' ')),
+    }
+}
+
+fn set(numbers: &mut [u32], i: usize, value: usize) {
+    if i < numbers.len() {
+        numbers[i] = (value % 4294967296) as u32;
+    }
+}
+
+// Sets the numbers that a text gives, and answers how many they are.
+fn fill(numbers: &mut [u32], text: &[u8]) -> usize {
+    let mut at = 0;
+    let mut i = 0;
+    while at < text.len() {
+        let part = before(&text[at..], b' ');
+        let n = part.len();
+        set(numbers, i, decimal(part));
+        i += 1;
+        at = past(text, at, n);
+    }
+    i
+}
+
+fn name_of(bytes: &[u8], record: Record, names: &[u32], i: usize) {
+    let place = sheet::name_place(bytes, record, names, i);
+    match place {
+        Named::At(offset, length) => {
+            say(b": at ");
+            number(offset);
+            say(b" ");
+            number(length);
+        }
+        Named::Refused(refusal) => {
+            say(b": refused ");
+            refusal_number(refusal);
+        }
+    }
+    say(b" ");
+    say(sheet::name(bytes, record, names, i));
+}
+
+fn name_case(text: &[u8]) {
+    let mut sheet_space = [0u8; 65540];
+    let mut name_space = [0u32; 1510];
+    let bytes: &mut [u8] = &mut sheet_space;
+    let names: &mut [u32] = &mut name_space;
+    let numbers = after(text, b'|');
+    let asked = after(numbers, b'|');
+    let table_end = least(build(bytes, before(numbers, b'|')), bytes.len());
+    let n = least(fill(names, &bytes[0..table_end]), names.len());
+    let end = least(build(bytes, after(asked, b'|')), bytes.len());
+    let built = &bytes[..];
+    let lent = &names[..];
+    name_of(
+        &built[0..end],
+        record_of(before(text, b'|')),
+        &lent[0..n],
+        decimal(before(asked, b'|')),
+    );
+}
+
+fn one_case(text: &[u8]) {
+    say(before(text, b'|'));
+    if nth(text, 0) == b'@' {
+        name_case(after(text, b'|'));
+    } else {
+        load_case(after(text, b'|'));
+    }
+    say(b"\n");
+}
+
+fn cases(text: &[u8]) {
+    let mut at = 0;
+    while at < text.len() {
+        let part = before(&text[at..], b'\n');
+        let n = part.len();
+        one_case(part);
+        at = past(text, at, n);
+    }
+}
+
+fn main() {
+    let mut space = io::large_buffer();
+    let n = io::read_full(STDIN_FILENO, &mut space);
+    cases(&space[..n]);
+}

@@ -1,0 +1,242 @@
+-- What a good load tells: it passes every check that asking makes, its names ascend and are found again, its rows are a tree.
+use Prim.Native.Nat.{ℕ, _+_, _-_, _*_, _≤_, _<_}
+use mathlib.Core.Path.{_≡_, refl, sym, ap, _∙_}
+use mathlib.Core.Bool.{Bool, true, false, cond, _||_, and-eq-true-iff}
+use mathlib.Core.List.{List, []}
+use native.Mathlib.Omega.{arith}
+use lib.Dec.{leb}
+use lib.ListN.{length, take, drop, getD, replicate, length-append, length-replicate, List·getD-append}
+use borrow.Author.Tests.{leb-true, le-leb, lt-ltb}
+use Rattle.kinds.specs.Kinds.{bytes}
+use Rattle.table.specs.Rows.{kindAt, tree, Nested}
+use Rattle.table.proofs.Same.{tree-front}
+use Rattle.checks.specs.declared.Checked.{Checked}
+use Rattle.checks.specs.declared.Checked.the-variants as C
+use Rattle.checks.specs.Checks.{fieldsOf, endsOf, childrenOf}
+use Rattle.checks.proofs.Rows.{both-pass}
+use Rattle.checks.proofs.Passed.{fields-pass, children-passed}
+use Rattle.text.specs.Fields.{field, startsWith, below}
+use Rattle.lines.specs.Lines.{jumpMark}
+use Rattle.sheet_record.specs.declared.Record.{Record}
+use Rattle.sheet_record.specs.Records.{recordFits, offsetAt, sizeAt, markAt, textAt}
+use Rattle.sections.proofs.ReadLaws.{NameEntry, names-length, names-entry, names-ascend, rows-length, rows-kind, rows-side, entry-append, text-append}
+use Rattle.sheet.specs.declared.Refusal.{Refusal}
+use Rattle.sheet.specs.declared.Refusal.the-variants.{TooLong, Line, NoRoom}
+use Rattle.sheet.specs.declared.Loaded.{Loaded}
+use Rattle.sheet.specs.declared.Loaded.the-variants.{Done, Refused}
+use Rattle.sheet.specs.Load.{Parsed, parsed, wrong, linesOf, Result, refuse, tableOf, hasRoom, afterChecks, checkedAnswer, withTables, finishOf, afterParse, loadOf}
+use Rattle.sheet.specs.Naming.{placeOf, partAt, textOf}
+use Rattle.sheet.proofs.Reading.{RecordTold, Parts, before-parts}
+use Rattle.sheet.proofs.Finishing.{never}
+use Rattle.sheet.proofs.Loading.{LinesTold, lines-told, record-told}
+
+-- the lines, the room and the checks of a good load, and its tables
+pub record GoodLoad (s : List ℕ) (rowRoom nameRoom : ℕ) (r : Record) : Type 0 where
+  pub nameNumbers : List ℕ
+  pub rowNumbers : List ℕ
+  pub lines : linesOf s ≡ parsed r nameNumbers rowNumbers
+  pub for-rows : 5 * r .rows ≤ rowRoom
+  pub for-names : 3 * r .names ≤ nameRoom
+  pub checked : childrenOf (tableOf rowRoom rowNumbers) (r .rows) ≡ C.Passed
+  pub is : loadOf s rowRoom nameRoom ≡ record { answer = Done r; rows = tableOf rowRoom rowNumbers; names = tableOf nameRoom nameNumbers }
+
+good-checks : (c : Checked) (q r : Record) → afterChecks c q ≡ Done r → (c ≡ C.Passed) × (q ≡ r)
+good-checks C.Passed q r e = (refl, cc)
+good-checks (C.Refused fault row) q r e = never e
+
+module _ (s : List ℕ) (rowRoom nameRoom : ℕ) (r : Record) where
+  not-done : (f : Refusal) (l : ℕ) → refuse rowRoom nameRoom f l .answer ≡ Done r → GoodLoad s rowRoom nameRoom r
+  unfolding refuse
+  not-done f l e = never e
+
+  good-tables : (a : Loaded) (rows names : List ℕ) → withTables rowRoom nameRoom a rows names .answer ≡ Done r → a ≡ Done r
+  unfolding refuse
+  good-tables (Done q) rows names e = e
+  good-tables (Refused refusal line) rows names e = never e
+
+  good-room : (q : Record) (ns rs : List ℕ) → linesOf s ≡ parsed q ns rs → loadOf s rowRoom nameRoom ≡ finishOf rowRoom nameRoom q ns rs → (b : Bool) → hasRoom rowRoom nameRoom q ≡ b → cond b (withTables rowRoom nameRoom (checkedAnswer q (tableOf rowRoom rs)) (tableOf rowRoom rs) (tableOf nameRoom ns)) (refuse rowRoom nameRoom NoRoom 0) .answer ≡ Done r → GoodLoad s rowRoom nameRoom r
+  unfolding hasRoom checkedAnswer finishOf
+  good-room q ns rs l w true b e =
+      let a = good-tables (checkedAnswer q (tableOf rowRoom rs)) (tableOf rowRoom rs) (tableOf nameRoom ns) e in
+      let c = good-checks (childrenOf (tableOf rowRoom rs) (q .rows)) q r a in
+      let x = c .1 in
+      let t = and-eq-true-iff (leb (5 * q .rows) rowRoom) (leb (3 * q .names) nameRoom) .0 b in
+      let whole : loadOf s rowRoom nameRoom ≡ withTables rowRoom nameRoom (checkedAnswer q (tableOf rowRoom rs)) (tableOf rowRoom rs) (tableOf nameRoom ns) = w ∙ rw b in
+      record {
+        nameNumbers = ns;
+        rowNumbers = rs;
+        lines = l ∙ ap (λ (y : Record). parsed y ns rs) x;
+        for-rows = omega (arith, leb-true (5 * q .rows) rowRoom (t .0), ap (λ (y : Record). y .rows) x);
+        for-names = omega (arith, leb-true (3 * q .names) nameRoom (t .1), ap (λ (y : Record). y .names) x);
+        checked = ap (λ (y : Record). childrenOf (tableOf rowRoom rs) (y .rows)) (sym x) ∙ c .0;
+        is = whole ∙ ap (λ (y : Loaded). withTables rowRoom nameRoom y (tableOf rowRoom rs) (tableOf nameRoom ns)) a;
+      }
+  good-room q ns rs l w false b e = not-done NoRoom 0 e
+
+  good-lines : (p : Parsed) → linesOf s ≡ p → loadOf s rowRoom nameRoom ≡ afterParse rowRoom nameRoom p → afterParse rowRoom nameRoom p .answer ≡ Done r → GoodLoad s rowRoom nameRoom r
+  unfolding finishOf
+  good-lines (parsed q ns rs) l w e = good-room q ns rs l w (hasRoom rowRoom nameRoom q) refl e
+  good-lines (wrong fault line) l w e = not-done (Line fault) line e
+
+  good-length : (b : Bool) → leb (length s) 65536 ≡ b → cond b (afterParse rowRoom nameRoom (linesOf s)) (refuse rowRoom nameRoom TooLong 0) .answer ≡ Done r → GoodLoad s rowRoom nameRoom r
+  unfolding loadOf
+  good-length true b e = good-lines (linesOf s) refl (rw b) e
+  good-length false b e = not-done TooLong 0 e
+
+  pub good-load : loadOf s rowRoom nameRoom .answer ≡ Done r → GoodLoad s rowRoom nameRoom r
+  unfolding loadOf
+  good-load e = good-length (leb (length s) 65536) refl e
+
+-- numbers in front of a table
+table-length : (room : ℕ) (numbers : List ℕ) → length numbers ≤ room → length (tableOf room numbers) ≡ room
+unfolding tableOf
+table-length room numbers h = length-append numbers (replicate (room - length numbers) 0) ∙ omega (arith, length-replicate {A = ℕ} (room - length numbers) 0)
+
+table-front : (room : ℕ) (numbers : List ℕ) (i : ℕ) → i < length numbers → getD (tableOf room numbers) i 0 ≡ getD numbers i 0
+unfolding tableOf
+table-front room numbers i h = List·getD-append numbers (replicate (room - length numbers) 0) 0 i h
+
+-- a mark is 0 or 1
+mark-small : (name : List ℕ) → jumpMark name ≤ 1
+unfolding jumpMark
+mark-small name = go (startsWith (bytes "$break$") name || startsWith (bytes "$continue$") name)
+  where
+    go : (b : Bool) → cond b 1 0 ≤ 1
+    go true = omega arith
+    go false = omega arith
+
+-- what asking checks: 22, then marks, then fields, ends and depth, children
+pub record Asked (r : Record) (rows names : List ℕ) : Type 0 where
+  pub fits : recordFits r ≡ true
+  pub rows-held : 5 * r .rows ≤ length rows
+  pub names-held : 3 * r .names ≤ length names
+  pub marks : (i : ℕ) → i < r .names → markAt names i ≤ 1
+  pub fields : fieldsOf rows (r .rows) (r .names) ≡ C.Passed
+  pub ends : endsOf rows (r .rows) ≡ C.Passed
+  pub children : childrenOf rows (r .rows) ≡ C.Passed
+
+record-right : (r : Record) → RecordTold r → recordFits r ≡ true
+unfolding recordFits
+record-right r t =
+    let f = t .facts in
+    let below : r .local < r .names = omega (arith, t .names, f .local) in
+    rw
+    (le-leb 1 (r .names) (t .names .least), le-leb (r .names) 500 (t .names .most), le-leb 1 (r .rows) (f .rows .least), le-leb (r .rows) 2000 (f .rows .most), lt-ltb (r .local) (r .names) below, le-leb (r .start) 1 (f .start .most), le-leb (r .sole) 1 (f .sole .most))
+
+part-within : (s : List ℕ) (at size : ℕ) → at + size ≤ length s → partAt s at size ≡ take size (drop at s)
+unfolding partAt
+part-within s at size h = rw (le-leb (at + size) (length s) h)
+
+-- of its tables
+module _ (s : List ℕ) (rowRoom nameRoom : ℕ) (r : Record) (g : GoodLoad s rowRoom nameRoom r) where
+  told : LinesTold s r (g .nameNumbers) (g .rowNumbers)
+  told = lines-told s r (g .nameNumbers) (g .rowNumbers) (g .lines)
+
+  parts : Parts s r (g .nameNumbers) (told .rows-at)
+  parts = before-parts s r (g .nameNumbers) (told .rows-at) (told .first)
+
+  row-count : length (g .rowNumbers) ≡ 5 * r .rows
+  row-count = rows-length (r .names) s (r .rows) [] (told .rows-at) (r .names + 7) (g .rowNumbers) (told .end) (told .last)
+
+  name-count : length (g .nameNumbers) ≡ 3 * r .names
+  name-count = names-length s (r .names) [] (parts .names-at) 3 (g .nameNumbers) (parts .facts-at) (parts .names)
+
+  rows-wide : length (tableOf rowRoom (g .rowNumbers)) ≡ rowRoom
+  rows-wide = table-length rowRoom (g .rowNumbers) (omega (arith, row-count, g .for-rows))
+
+  names-wide : length (tableOf nameRoom (g .nameNumbers)) ≡ nameRoom
+  names-wide = table-length nameRoom (g .nameNumbers) (omega (arith, name-count, g .for-names))
+
+  ranges : RecordTold r
+  ranges = record-told s r (g .nameNumbers) (g .rowNumbers) (g .lines)
+
+  row-at : (i j : ℕ) → i < r .rows → j < 5 → getD (tableOf rowRoom (g .rowNumbers)) (5 * i + j) 0 ≡ getD (g .rowNumbers) (5 * i + j) 0
+  row-at i j h k = table-front rowRoom (g .rowNumbers) (5 * i + j) (omega (arith, row-count))
+
+  fields : fieldsOf (tableOf rowRoom (g .rowNumbers)) (r .rows) (r .names) ≡ C.Passed
+  fields =
+      fields-pass (tableOf rowRoom (g .rowNumbers)) (r .rows) (r .names)
+      (record {
+        held = record { some = ranges .facts .rows .least; few = ranges .facts .rows .most; room = omega (arith, rows-wide, g .for-rows) };
+        known = λ i h. rw (kind i h) (rows-kind (r .names) s (r .rows) [] (told .rows-at) (r .names + 7) (g .rowNumbers) (told .end) (told .last) i h);
+        sides = λ i h. rw (kind i h, row-at i 1 h (omega arith)) (rows-side (r .names) s (r .rows) [] (told .rows-at) (r .names + 7) (g .rowNumbers) (told .end) (told .last) i h);
+      })
+    where
+      kind : (i : ℕ) → i < r .rows → kindAt (tableOf rowRoom (g .rowNumbers)) i ≡ kindAt (g .rowNumbers) i
+      kind i h = table-front rowRoom (g .rowNumbers) (5 * i) (omega (arith, row-count))
+
+  entry : (i : ℕ) → i < r .names → NameEntry s (tableOf nameRoom (g .nameNumbers)) i
+  unfolding tableOf
+  entry i h =
+      entry-append s (g .nameNumbers) (replicate (nameRoom - length (g .nameNumbers)) 0) i (r .names) name-count h
+      (names-entry s (r .names) [] (parts .names-at) 3 (g .nameNumbers) (parts .facts-at) (parts .names) i h)
+
+  asked : Asked r (tableOf rowRoom (g .rowNumbers)) (tableOf nameRoom (g .nameNumbers))
+  asked =
+      record {
+        fits = record-right r ranges;
+        rows-held = omega (arith, rows-wide, g .for-rows);
+        names-held = omega (arith, names-wide, g .for-names);
+        marks = λ i h. rw (entry i h .mark) (mark-small (textAt s (tableOf nameRoom (g .nameNumbers)) i));
+        fields = fields;
+        ends = both-pass (endsOf (tableOf rowRoom (g .rowNumbers)) (r .rows)) _ (g .checked) .0;
+        children = g .checked;
+      }
+
+  ascends : (i : ℕ) → i + 1 < r .names → below (textAt s (tableOf nameRoom (g .nameNumbers)) i) (textAt s (tableOf nameRoom (g .nameNumbers)) (i + 1)) ≡ true
+  unfolding tableOf
+  ascends i h =
+      rw
+      (text-append s (g .nameNumbers) (replicate (nameRoom - length (g .nameNumbers)) 0) i (r .names) name-count (omega arith), text-append s (g .nameNumbers) (replicate (nameRoom - length (g .nameNumbers)) 0) (i + 1) (r .names) name-count h)
+      (names-ascend s (r .names) [] (parts .names-at) 3 (g .nameNumbers) (parts .facts-at) (parts .names) i h)
+
+  found : (i : ℕ) → i < r .names → textOf s r (tableOf nameRoom (g .nameNumbers)) i ≡ textAt s (tableOf nameRoom (g .nameNumbers)) i
+  unfolding textOf placeOf
+  found i h =
+      let table = tableOf nameRoom (g .nameNumbers) in
+      let within = le-leb (offsetAt table i + sizeAt table i) (length s) (entry i h .within) in
+      rw (asked .fits, le-leb (3 * r .names) (length table) (asked .names-held), lt-ltb i (r .names) h, within) (part-within s (offsetAt table i) (sizeAt table i) (entry i h .within))
+
+  nested : Nested (tableOf rowRoom (g .rowNumbers)) 0 (r .rows)
+  nested = children-passed (tableOf rowRoom (g .rowNumbers)) (r .rows) C.Passed (sym (g .checked)) refl .ends .nested
+
+  same-tree : tree (tableOf rowRoom (g .rowNumbers)) 0 (r .rows) ≡ tree (g .rowNumbers) 0 (r .rows)
+  unfolding tableOf
+  same-tree = tree-front (g .rowNumbers) (replicate (rowRoom - length (g .rowNumbers)) 0) 0 (r .rows) (omega (arith, row-count)) nested
+
+-- the laws of a good load
+module _ (s : List ℕ) (rowRoom nameRoom : ℕ) (r : Record) (e : loadOf s rowRoom nameRoom .answer ≡ Done r) where
+  good : GoodLoad s rowRoom nameRoom r
+  good = good-load s rowRoom nameRoom r e
+
+  row-table : loadOf s rowRoom nameRoom .rows ≡ tableOf rowRoom (good .rowNumbers)
+  row-table = ap (λ (x : Result). x .rows) (good .is)
+
+  name-table : loadOf s rowRoom nameRoom .names ≡ tableOf nameRoom (good .nameNumbers)
+  name-table = ap (λ (x : Result). x .names) (good .is)
+
+  -- it passes every check that asking makes
+  pub load-asked : Asked r (loadOf s rowRoom nameRoom .rows) (loadOf s rowRoom nameRoom .names)
+  load-asked = rw (row-table, name-table) (asked s rowRoom nameRoom r good)
+
+  -- its name table says of each name where its line has it, and its mark
+  pub load-entry : (i : ℕ) → i < r .names → NameEntry s (loadOf s rowRoom nameRoom .names) i
+  load-entry i h = rw name-table (entry s rowRoom nameRoom r good i h)
+
+  -- its names ascend
+  pub load-ascends : (i : ℕ) → i + 1 < r .names → below (textAt s (loadOf s rowRoom nameRoom .names) i) (textAt s (loadOf s rowRoom nameRoom .names) (i + 1)) ≡ true
+  load-ascends i h = rw name-table (ascends s rowRoom nameRoom r good i h)
+
+  -- the call of a name gives the text of its line back
+  pub load-name : (i : ℕ) → i < r .names → textOf s r (loadOf s rowRoom nameRoom .names) i ≡ field 10 s (offsetAt (loadOf s rowRoom nameRoom .names) i)
+  load-name i h = rw name-table (found s rowRoom nameRoom r good i h ∙ entry s rowRoom nameRoom r good i h .line)
+
+  -- its rows nest, which is the premise of every law of their tree; and the tree is that of the sheet's row lines alone
+  pub load-nested : Nested (loadOf s rowRoom nameRoom .rows) 0 (r .rows)
+  load-nested = rw row-table (nested s rowRoom nameRoom r good)
+
+  pub load-tree : (names rows : List ℕ) → linesOf s ≡ parsed r names rows → tree (loadOf s rowRoom nameRoom .rows) 0 (r .rows) ≡ tree rows 0 (r .rows)
+  load-tree names rows l = rw row-table (same-tree s rowRoom nameRoom r good ∙ ap (λ (x : List ℕ). tree x 0 (r .rows)) (same-rows (sym (good .lines) ∙ l)))
+    where
+      same-rows : parsed r (good .nameNumbers) (good .rowNumbers) ≡ parsed r names rows → good .rowNumbers ≡ rows
+      same-rows p = cc
