@@ -25,7 +25,7 @@ use Rattle.sheet.specs.declared.Refusal.the-variants.{TooLong, Line, NoR
 use Rattle.sheet.specs.declared.Loaded.{Loaded}
 use Rattle.sheet.specs.declared.Loaded.the-variants.{Done, Refused}
 use Rattle.sheet.specs.Load.{Parsed, parsed, wrong, linesOf, Result, refuse, tableOf, hasRoom, afterChecks, checkedAnswer, withTables, finishOf, afterParse, loadOf}
-use Rattle.sheet.specs.Naming.{placeOf, partAt, textOf}
+use Rattle.sheet.specs.Naming.{namePlace, partAt, textOf}
 use Rattle.sheet.proofs.Reading.{RecordTold, Parts, before-parts}
 use Rattle.sheet.proofs.Finishing.{never}
 use Rattle.sheet.proofs.Loading.{LinesTold, lines-told, record-told}
@@ -191,7 +191,7 @@ module _ (s : List ℕ) (rowRoom nameRoom : ℕ) (r : Record) (g : GoodLoad s ro
       (names-ascend s (r .names) [] (parts .names-at) 3 (g .nameNumbers) (parts .facts-at) (parts .names) i h)
 
   found : (i : ℕ) → i < r .names → textOf s r (tableOf nameRoom (g .nameNumbers)) i ≡ textAt s (tableOf nameRoom (g .nameNumbers)) i
-  unfolding textOf placeOf
+  unfolding textOf namePlace
   found i h =
       let table = tableOf nameRoom (g .nameNumbers) in
       let within = le-leb (offsetAt table i + sizeAt table i) (length s) (entry i h .within) in

@@ -14,40 +14,40 @@ use Rattle.sheet.specs.declared.Refusal.{Refusal}
 use Rattle.sheet.specs.declared.Refusal.the-variants.{WrongRecord, NoName}
 use Rattle.sheet.specs.declared.Named.{Named}
 use Rattle.sheet.specs.declared.Named.the-variants.{At, Refused}
-use Rattle.sheet.specs.Naming.{placeOf, partAt, textOf}
+use Rattle.sheet.specs.Naming.{namePlace, partAt, textOf}
 
 -- the place
 module _ (s : List ℕ) (r : Record) (table : List ℕ) (i : ℕ) (b : Bool) (q : b ≡ recordFits r) where
-  pub place-record : not b ≡ true → Refused WrongRecord ≡ placeOf s r table i
-  unfolding placeOf
+  pub place-record : not b ≡ true → Refused WrongRecord ≡ namePlace s r table i
+  unfolding namePlace
   place-record n = rw (← q, not-true b n)
 
   module _ (n : not b ≡ false) (c : Bool) (p : c ≡ leb (3 * r .names) (length table)) where
-    pub place-short : not c ≡ true → Refused WrongRecord ≡ placeOf s r table i
-    unfolding placeOf
+    pub place-short : not c ≡ true → Refused WrongRecord ≡ namePlace s r table i
+    unfolding namePlace
     place-short m = rw (← q, not-false b n, ← p, not-true c m)
 
     module _ (m : not c ≡ false) where
       pub place-entry : i < r .names → 3 * i + 2 < length table
       place-entry h = let k : 3 * r .names ≤ length table = leb-true _ _ (sym p ∙ not-false c m) in omega arith
 
-      pub place-number : r .names ≤ i → Refused NoName ≡ placeOf s r table i
-      unfolding placeOf
+      pub place-number : r .names ≤ i → Refused NoName ≡ namePlace s r table i
+      unfolding namePlace
       place-number h = rw (← q, not-false b n, ← p, not-false c m, le-ltb i (r .names) h)
 
       module _ (h : i < r .names) (offset size : ℕ) (x : offset ≡ offsetAt table i) (y : size ≡ sizeAt table i) where
-        outside : length s < offset + size → Refused NoName ≡ placeOf s r table i
-        unfolding placeOf
+        outside : length s < offset + size → Refused NoName ≡ namePlace s r table i
+        unfolding namePlace
         outside l = rw (← q, not-false b n, ← p, not-false c m, lt-ltb i (r .names) h, ← x, ← y, lt-leb (offset + size) (length s) l)
 
-        pub place-past : length s < offset → Refused NoName ≡ placeOf s r table i
+        pub place-past : length s < offset → Refused NoName ≡ namePlace s r table i
         place-past l = outside (omega arith)
 
-        pub place-long : offset ≤ length s → length s - offset < size → Refused NoName ≡ placeOf s r table i
+        pub place-long : offset ≤ length s → length s - offset < size → Refused NoName ≡ namePlace s r table i
         place-long k l = outside (omega arith)
 
-        pub place-at : offset ≤ length s → size ≤ length s - offset → At offset size ≡ placeOf s r table i
-        unfolding placeOf
+        pub place-at : offset ≤ length s → size ≤ length s - offset → At offset size ≡ namePlace s r table i
+        unfolding namePlace
         place-at k l = rw (← q, not-false b n, ← p, not-false c m, lt-ltb i (r .names) h, ← x, ← y, le-leb (offset + size) (length s) (omega arith))
 
 -- a part of a sheet
@@ -65,7 +65,7 @@ module _ (s : List ℕ) (at size : ℕ) where
   part-at k h end e = let z : end - at ≡ size = omega arith in rw (le-leb (at + size) (length s) (omega arith), z)
 
 -- the text
-module _ (s : List ℕ) (r : Record) (table : List ℕ) (i : ℕ) (p : Named) (q : p ≡ placeOf s r table i) where
+module _ (s : List ℕ) (r : Record) (table : List ℕ) (i : ℕ) (p : Named) (q : p ≡ namePlace s r table i) where
   pub text-none : (refusal : Refusal) → p ≡ Refused refusal → [] ≡ textOf s r table i
   unfolding textOf
   text-none refusal e = rw (← q, e)

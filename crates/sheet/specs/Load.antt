@@ -33,6 +33,20 @@ refusalNumber (Rows fault) = numberOf fault
 refusalNumber WrongRecord = 22
 refusalNumber NoName = 24
 
+-- what each answer is in numbers: the refusal's number, 0 for a good load; the place, "a line number from 1, or 0"; and the
+-- record, zeros where it is refused
+abbrev pub refusalOf : Loaded → ℕ
+refusalOf (Done r) = 0
+refusalOf (Refused refusal line) = refusalNumber refusal
+
+abbrev pub placeOf : Loaded → ℕ
+placeOf (Done r) = 0
+placeOf (Refused refusal line) = line
+
+abbrev pub recordOf : Loaded → Record
+recordOf (Done r) = r
+recordOf (Refused refusal line) = record { names = 0; rows = 0; local = 0; start = 0; sole = 0 }
+
 -- what the lines before the rows tell: the record, the numbers of the names, and where the rows start; or the first refusal,
 -- and its line
 pub data Before : Type 0 where

@@ -12,8 +12,8 @@ use Rattle.sheet.specs.declared.Named.the-variants.{At, Refused}
 
 -- the place of a name: 22, "or tables too short for it", which for a name is the name table; then 24, "number not below names,
 -- or its place passes the end of the bytes lent"
-unfoldable pub placeOf : List ℕ → Record → List ℕ → ℕ → Named
-placeOf s r table i =
+unfoldable pub namePlace : List ℕ → Record → List ℕ → ℕ → Named
+namePlace s r table i =
     cond (recordFits r && leb (3 * r .names) (length table))
     (cond (ltb i (r .names) && leb (offsetAt table i + sizeAt table i) (length s))
     (At (offsetAt table i) (sizeAt table i))
@@ -30,4 +30,4 @@ partOf s (At offset size) = partAt s offset size
 partOf s (Refused refusal) = []
 
 unfoldable pub textOf : List ℕ → Record → List ℕ → ℕ → List ℕ
-textOf s r table i = partOf s (placeOf s r table i)
+textOf s r table i = partOf s (namePlace s r table i)

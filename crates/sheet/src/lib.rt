@@ -10,9 +10,9 @@ ghost use mathlib.Core.List.{_++_};
 ghost use Prim.Native.Nat.{_+_, _-_, _*_, _≤_, _<_};
 ghost use lib.ListN.{length, take, replicate};
 ghost use Rattle.sections.specs.Sections.{Short};
-ghost use Rattle.sheet.specs.Load.{refusalNumber, beforeRows, lineOf, linesOf, checkedAnswer, loadOf};
+ghost use Rattle.sheet.specs.Load.{refusalNumber, refusalOf, placeOf, recordOf, beforeRows, lineOf, linesOf, checkedAnswer, loadOf};
 ghost use Rattle.sheet.specs.Steps.{factsOf, answerOf, NamesFilled, BothFilled, Room, GoodFilled, finishFronts, isRefused};
-ghost use Rattle.sheet.specs.Naming.{placeOf, partAt, textOf};
+ghost use Rattle.sheet.specs.Naming.{namePlace, partAt, textOf};
 
 // Why a load or a name is refused.
 pub enum Refusal {
@@ -42,6 +42,42 @@ pub fn number_of(refusal: Refusal) -> u32
 pub enum Loaded {
     Done(Record),
     Refused(Refusal, usize),
+}
+
+// Document 01's number of an answer's refusal, 0 where it has none.
+pub fn refusal_of(loaded: Loaded) -> u32
+    ensures { λ r. ⌜ r ≡ refusalOf loaded ⌝ }
+{
+    match loaded {
+        Loaded::Done(record) => 0,
+        Loaded::Refused(refusal, line) => number_of(refusal),
+    }
+}
+
+// The place of an answer's refusal, 0 where it has none.
+pub fn place_of(loaded: Loaded) -> usize
+    ensures { λ r. ⌜ r ≡ placeOf loaded ⌝ }
+{
+    match loaded {
+        Loaded::Done(record) => 0,
+        Loaded::Refused(refusal, line) => line,
+    }
+}
+
+// The record of an answer, zeros where it is refused.
+pub fn record_of(loaded: Loaded) -> Record
+    ensures { λ r. ⌜ r ≡ recordOf loaded ⌝ }
+{
+    match loaded {
+        Loaded::Done(record) => record,
+        Loaded::Refused(refusal, line) => Record {
+            names: 0,
+            rows: 0,
+            local: 0,
+            start: 0,
+            sole: 0,
+        },
+    }
 }
 
 // The lines before the rows.
@@ -199,7 +235,7 @@ pub enum Named {
 
 // The place of a name in the bytes that the sheet was loaded from.
 pub fn name_place(sheet: &[u8], record: Record, names: &[u32], number: usize) -> Named
-    ensures { λ r. ⌜ r ≡ placeOf (now (sheet .entry)) «record» (now (names .entry)) number ⌝ }
+    ensures { λ r. ⌜ r ≡ namePlace (now (sheet .entry)) «record» (now (names .entry)) number ⌝ }
 {
     if !sheet_record::record_fits(record) {
         return Named::Refused(Refusal::WrongRecord);
