@@ -45,50 +45,8 @@ fn kind(word: &[u8]) -> u32 {
     }
 }
 
-// The place of the first such byte, or the length.
-fn find(text: &[u8], byte: u8) -> usize
-    ensures { λ r. ⌜ r ≤ length (now (text .entry)) ⌝ }
-{
-    let mut i = 0;
-    while i < text.len() {
-        if text[i] == byte {
-            return i;
-        }
-        i += 1;
-    }
-    i
-}
-
-fn before(text: &[u8], byte: u8) -> &[u8]
-    ensures { λ r. ⌜ length (now r) ≤ length (now (text .entry)) ⌝ }
-{
-    let n = find(text, byte);
-    &text[0..n]
-}
-
-fn after(text: &[u8], byte: u8) -> &[u8] {
-    let n = find(text, byte);
-    if n < text.len() {
-        let rest = n + 1;
-        return &text[rest..];
-    }
-    &text[n..]
-}
-
-fn digit(b: u8) -> u64
-    ensures { λ r. ⌜ r ≤ 15 ⌝ }
-{
-    (b % 16) as u64
-}
-
 fn decimal(text: &[u8]) -> u32 {
-    let mut v: u64 = 0;
-    let mut i = 0;
-    while i < text.len() {
-        v = (v * 10 + digit(text[i])) % 4294967296;
-        i += 1;
-    }
-    (v % 4294967296) as u32
+    (case_text::decimal(text) % 4294967296) as u32
 }
 
 fn put(rows: &mut [u32], at: usize, value: u32) {
@@ -119,13 +77,13 @@ fn kind_field(text: &[u8]) -> u32 {
 }
 
 fn row_of(rows: &mut [u32], i: usize, text: &[u8]) {
-    let rest = after(text, b' ');
+    let rest = case_text::after(text, b' ');
     row(
         rows,
         i,
-        kind_field(before(text, b' ')),
-        decimal(before(rest, b' ')),
-        decimal(after(rest, b' ')),
+        kind_field(case_text::before(text, b' ')),
+        decimal(case_text::before(rest, b' ')),
+        decimal(case_text::after(rest, b' ')),
     );
 }
 
@@ -134,14 +92,11 @@ fn fill(rows: &mut [u32], text: &[u8]) {
     let mut at = 0;
     let mut i = 0;
     while at < text.len() {
-        let part = before(&text[at..], b';');
+        let part = case_text::before(&text[at..], b';');
         let n = part.len();
         row_of(rows, i, part);
         i += 1;
-        if text.len() <= at + n {
-            return;
-        }
-        at = at + n + 1;
+        at = case_text::past(text, at, n);
     }
 }
 
@@ -157,8 +112,8 @@ fn blocks(rows: &mut [u32], count: u32, nested: bool) {
 }
 
 fn rows_of(rows: &mut [u32], count: u32, text: &[u8]) {
-    if find(text, b'*') < text.len() {
-        blocks(rows, count, find(text, b'n') < text.len());
+    if case_text::find(text, b'*') < text.len() {
+        blocks(rows, count, case_text::find(text, b'n') < text.len());
     } else {
         fill(rows, text);
     }
@@ -167,12 +122,12 @@ fn rows_of(rows: &mut [u32], count: u32, text: &[u8]) {
 fn one_case(title: &[u8], text: &[u8]) {
     let mut space = [0u32; 10005];
     let rows: &mut [u32] = &mut space;
-    let count = decimal(before(text, b'|'));
-    let rest = after(text, b'|');
-    let numbers = table::wide(decimal(before(rest, b'|')));
-    let named = after(rest, b'|');
-    let names = table::wide(decimal(before(named, b'|')));
-    rows_of(rows, count, after(named, b'|'));
+    let count = decimal(case_text::before(text, b'|'));
+    let rest = case_text::after(text, b'|');
+    let numbers = table::wide(decimal(case_text::before(rest, b'|')));
+    let named = case_text::after(rest, b'|');
+    let names = table::wide(decimal(case_text::before(named, b'|')));
+    rows_of(rows, count, case_text::after(named, b'|'));
     let shared = &rows[..];
     if numbers <= shared.len() {
         report(title, &shared[0..numbers], table::wide(count), names);
@@ -180,8 +135,8 @@ fn one_case(title: &[u8], text: &[u8]) {
 }
 
 fn line(text: &[u8]) {
-    if find(text, b'|') < text.len() {
-        one_case(before(text, b'|'), after(text, b'|'));
+    if case_text::find(text, b'|') < text.len() {
+        one_case(case_text::before(text, b'|'), case_text::after(text, b'|'));
     } else {
         say(text);
         say(b" ");
@@ -193,13 +148,10 @@ fn line(text: &[u8]) {
 fn lines(text: &[u8]) {
     let mut at = 0;
     while at < text.len() {
-        let part = before(&text[at..], b'\n');
+        let part = case_text::before(&text[at..], b'\n');
         let n = part.len();
         line(part);
-        if text.len() <= at + n {
-            return;
-        }
-        at = at + n + 1;
+        at = case_text::past(text, at, n);
     }
 }
 

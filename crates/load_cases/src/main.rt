@@ -32,120 +32,25 @@ fn refusal_number(refusal: Refusal) {
     number(table::wide(sheet::number_of(refusal)));
 }
 
-// The place of the first such byte, or the length.
-fn find(text: &[u8], byte: u8) -> usize
-    ensures { λ r. ⌜ r ≤ length (now (text .entry)) ⌝ }
-{
-    let mut i = 0;
-    while i < text.len() {
-        if text[i] == byte {
-            return i;
-        }
-        i += 1;
-    }
-    i
-}
-
-fn before(text: &[u8], byte: u8) -> &[u8] {
-    let n = find(text, byte);
-    &text[0..n]
-}
-
-fn after(text: &[u8], byte: u8) -> &[u8] {
-    let n = find(text, byte);
-    if n < text.len() {
-        let rest = n + 1;
-        return &text[rest..];
-    }
-    &text[n..]
-}
-
-fn nth(text: &[u8], i: usize) -> u8 {
-    if i < text.len() { text[i] } else { 0 }
-}
-
-fn least(a: usize, b: usize) -> usize
-    ensures { λ r. ⌜ r ≤ a ⌝ }
-    ensures { λ r. ⌜ r ≤ b ⌝ }
-{
-    if a < b { a } else { b }
-}
-
-fn digit(b: u8) -> usize
-    ensures { λ r. ⌜ r ≤ 15 ⌝ }
-{
-    (b % 16) as usize
-}
-
-// The number that a text spells; the largest where it spells more, so that a record can hold that one too.
-fn decimal(text: &[u8]) -> usize {
-    let mut v: usize = 0;
-    let mut i = 0;
-    while i < text.len() {
-        if 1844674407370955160 < v {
-            return 18446744073709551615;
-        }
-        v = v * 10 + digit(text[i]);
-        i += 1;
-    }
-    v
-}
-
-// A byte past the end is dropped: the place stays.
-fn put(out: &mut [u8], at: usize, byte: u8) -> usize {
-    if at < out.len() {
-        out[at] = byte;
-        return at + 1;
-    }
-    at
-}
-
-fn put_all(out: &mut [u8], from: usize, text: &[u8]) -> usize {
-    let mut at = from;
-    let mut i = 0;
-    while i < text.len() {
-        at = put(out, at, text[i]);
-        i += 1;
-    }
-    at
-}
-
-fn figure(n: usize) -> u8 {
-    48 + (n % 10) as u8
-}
-
-fn put_four(out: &mut [u8], from: usize, n: usize) -> usize {
-    let a = put(out, from, figure(n / 1000));
-    let b = put(out, a, figure(n / 100));
-    let c = put(out, b, figure(n / 10));
-    put(out, c, figure(n))
-}
-
 fn put_plain(out: &mut [u8], from: usize, n: usize) -> usize {
     let mut text = [0u8; 20];
     let k = io::decimal(n as u64, &mut text);
-    put_all(out, from, &text[..k])
-}
-
-fn hex_digit(b: u8) -> u8
-    ensures { λ r. ⌜ r ≤ 15 ⌝ }
-{
-    if 97 <= b { (b - 87) % 16 } else { b % 16 }
-}
-
-fn hex_byte(high: u8, low: u8) -> u8 {
-    hex_digit(high) * 16 + hex_digit(low)
+    case_text::put_all(out, from, &text[..k])
 }
 
 // Puts what the sign at a text's start stands for.
 fn put_sign(out: &mut [u8], at: usize, text: &[u8], turn: usize) -> usize {
-    let byte = nth(text, 0);
+    let byte = case_text::nth(text, 0);
     match byte {
-        b';' => put(out, at, 10),
-        b'\\' => put(out, at, hex_byte(nth(text, 1), nth(text, 2))),
-        b'#' => put_four(out, at, turn),
+        b';' => case_text::put(out, at, 10),
+        b'\\' => case_text::put(
+            out,
+            at,
+            case_text::hex_byte(case_text::nth(text, 1), case_text::nth(text, 2)),
+        ),
+        b'#' => case_text::put_four(out, at, turn),
         b'^' => put_plain(out, at, turn % 10000 + 2),
-        _ => put(out, at, byte),
+        _ => case_text::put(out, at, byte),
     }
 }
 
@@ -154,32 +59,20 @@ fn sign_rest(byte: u8) -> usize {
     if byte == b'\\' { 2 } else { 0 }
 }
 
-// The place after so many bytes and one more, and never past the text's end.
-fn past(text: &[u8], at: usize, n: usize) -> usize
-    requires { ⌜ at < length (now text) ⌝ }
-    ensures { λ r. ⌜ at < r ⌝ }
-    ensures { λ r. ⌜ r ≤ length (now (text .entry)) ⌝ }
-{
-    if n < text.len() - at {
-        return at + n + 1;
-    }
-    text.len()
-}
-
 fn put_signs(out: &mut [u8], from: usize, text: &[u8], turn: usize) -> usize {
     let mut end = from;
     let mut at = 0;
     while at < text.len() {
         end = put_sign(out, end, &text[at..], turn);
-        at = past(text, at, sign_rest(text[at]));
+        at = case_text::past(text, at, sign_rest(text[at]));
     }
     end
 }
 
 // Puts what `[n:text` stands for.
 fn put_repeated(out: &mut [u8], from: usize, text: &[u8]) -> usize {
-    let count = decimal(before(after(text, b'['), b':'));
-    let part = after(text, b':');
+    let count = case_text::decimal(case_text::before(case_text::after(text, b'['), b':'));
+    let part = case_text::after(text, b':');
     let mut end = from;
     let mut turn = 0;
     while turn < count {
@@ -195,34 +88,16 @@ fn build(out: &mut [u8], text: &[u8]) -> usize {
     let mut at = 0;
     while at < text.len() {
         if text[at] == b'[' {
-            let part = before(&text[at..], b']');
+            let part = case_text::before(&text[at..], b']');
             let n = part.len();
             end = put_repeated(out, end, part);
-            at = past(text, at, n);
+            at = case_text::past(text, at, n);
         } else {
             end = put_sign(out, end, &text[at..], 0);
-            at = past(text, at, sign_rest(text[at]));
+            at = case_text::past(text, at, sign_rest(text[at]));
         }
     }
     end
-}
-
-// Each number counts as one more than it is, so that zeros and their count tell.
-fn digest_step(d: usize, x: u32) -> usize
-    requires { ⌜ d < 4294967296 ⌝ }
-    ensures { λ r. ⌜ r < 4294967296 ⌝ }
-{
-    (d * 31 + table::wide(x) + 1) % 4294967296
-}
-
-fn digest(numbers: &[u32]) -> usize {
-    let mut d = 0;
-    let mut i = 0;
-    while i < numbers.len() {
-        d = digest_step(d, numbers[i]);
-        i += 1;
-    }
-    d
 }
 
 fn say_record(record: Record) {
@@ -240,9 +115,9 @@ fn say_record(record: Record) {
 
 fn say_tables(rows: &[u32], names: &[u32]) {
     say(b" tables ");
-    number(digest(rows));
+    number(case_text::digest(rows));
     say(b" ");
-    number(digest(names));
+    number(case_text::digest(names));
 }
 
 fn say_name(bytes: &[u8], record: Record, names: &[u32], i: usize) {
@@ -311,24 +186,30 @@ fn load_case(text: &[u8]) {
     let bytes: &mut [u8] = &mut sheet_space;
     let rows: &mut [u32] = &mut row_space;
     let names: &mut [u32] = &mut name_space;
-    let rest = after(text, b'|');
-    let r = least(decimal(before(text, b'|')), rows.len());
-    let n = least(decimal(before(rest, b'|')), names.len());
-    let end = least(build(bytes, after(rest, b'|')), bytes.len());
+    let rest = case_text::after(text, b'|');
+    let r = case_text::least(
+        case_text::decimal(case_text::before(text, b'|')),
+        rows.len(),
+    );
+    let n = case_text::least(
+        case_text::decimal(case_text::before(rest, b'|')),
+        names.len(),
+    );
+    let end = case_text::least(build(bytes, case_text::after(rest, b'|')), bytes.len());
     let built = &bytes[..];
     load_into(&built[0..end], &mut rows[0..r], &mut names[0..n]);
 }
 
 fn record_of(text: &[u8]) -> Record {
-    let a = after(text, b' ');
-    let b = after(a, b' ');
-    let c = after(b, b' ');
+    let a = case_text::after(text, b' ');
+    let b = case_text::after(a, b' ');
+    let c = case_text::after(b, b' ');
     Record {
-        names: decimal(before(text, b' ')),
-        rows: decimal(before(a, b' ')),
-        local: decimal(before(b, b' ')),
-        start: decimal(before(c, b' ')),
-        sole: decimal(after(c, b' ')),
+        names: case_text::decimal(case_text::before(text, b' ')),
+        rows: case_text::decimal(case_text::before(a, b' ')),
+        local: case_text::decimal(case_text::before(b, b' ')),
+        start: case_text::decimal(case_text::before(c, b' ')),
+        sole: case_text::decimal(case_text::after(c, b' ')),
     }
 }
 
@@ -343,11 +224,11 @@ fn fill(numbers: &mut [u32], text: &[u8]) -> usize {
     let mut at = 0;
     let mut i = 0;
     while at < text.len() {
-        let part = before(&text[at..], b' ');
+        let part = case_text::before(&text[at..], b' ');
         let n = part.len();
-        set(numbers, i, decimal(part));
+        set(numbers, i, case_text::decimal(part));
         i += 1;
-        at = past(text, at, n);
+        at = case_text::past(text, at, n);
     }
     i
 }
@@ -375,27 +256,27 @@ fn name_case(text: &[u8]) {
     let mut name_space = [0u32; 1510];
     let bytes: &mut [u8] = &mut sheet_space;
     let names: &mut [u32] = &mut name_space;
-    let numbers = after(text, b'|');
-    let asked = after(numbers, b'|');
-    let table_end = least(build(bytes, before(numbers, b'|')), bytes.len());
-    let n = least(fill(names, &bytes[0..table_end]), names.len());
-    let end = least(build(bytes, after(asked, b'|')), bytes.len());
+    let numbers = case_text::after(text, b'|');
+    let asked = case_text::after(numbers, b'|');
+    let table_end = case_text::least(build(bytes, case_text::before(numbers, b'|')), bytes.len());
+    let n = case_text::least(fill(names, &bytes[0..table_end]), names.len());
+    let end = case_text::least(build(bytes, case_text::after(asked, b'|')), bytes.len());
     let built = &bytes[..];
     let lent = &names[..];
     name_of(
         &built[0..end],
-        record_of(before(text, b'|')),
+        record_of(case_text::before(text, b'|')),
         &lent[0..n],
-        decimal(before(asked, b'|')),
+        case_text::decimal(case_text::before(asked, b'|')),
     );
 }
 
 fn one_case(text: &[u8]) {
-    say(before(text, b'|'));
-    if nth(text, 0) == b'@' {
-        name_case(after(text, b'|'));
+    say(case_text::before(text, b'|'));
+    if case_text::nth(text, 0) == b'@' {
+        name_case(case_text::after(text, b'|'));
     } else {
-        load_case(after(text, b'|'));
+        load_case(case_text::after(text, b'|'));
     }
     say(b"\n");
 }
@@ -403,10 +284,10 @@ fn one_case(text: &[u8]) {
 fn cases(text: &[u8]) {
     let mut at = 0;
     while at < text.len() {
-        let part = before(&text[at..], b'\n');
+        let part = case_text::before(&text[at..], b'\n');
         let n = part.len();
         one_case(part);
-        at = past(text, at, n);
+        at = case_text::past(text, at, n);
     }
 }
 

@@ -1,23 +1,26 @@
 use borrow.Author.Needs.{needs}
 use Prim.Native.Nat.{_-_, _≤_}
 use lib.ListN.{length}
-use Rattle.load_cases.proofs.find.Statement.{statement}
-use Rattle.load_cases.proofs.find.Tie as tie
+use Rattle.case_text.proofs.decimal.Statement.{statement}
+use Rattle.case_text.proofs.decimal.Tie as tie
 
 abbrev Inv-loop : tie.InvT-loop
-Inv-loop text byte i₀ i = i ≤ length text
+Inv-loop text v₀ i₀ v i = v ≤ 18446744073709551615
 
 abbrev μ-loop : tie.MeasureT-loop
-μ-loop text byte i₀ i = length text - i
+μ-loop text v₀ i₀ v i = length text - i
 
-pub find-spec : {M : Type 1} → statement M
-find-spec =
+pub decimal-spec : {M : Type 1} → statement M
+decimal-spec =
     tie.close
     (tie.spec
     Inv-loop
     μ-loop
     (λ c. search needs)
     (λ c. search needs)
+    (λ c. search needs)
+    (λ c. search needs)
+    (λ c κs. search needs)
     (λ c. search needs)
     (λ c. search needs)
     (λ c. search needs)

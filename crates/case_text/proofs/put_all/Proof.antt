@@ -1,23 +1,22 @@
 use borrow.Author.Needs.{needs}
 use Prim.Native.Nat.{_-_, _≤_}
+use mathlib.Core.Path.{_≡_}
 use lib.ListN.{length}
-use Rattle.load_cases.proofs.decimal.Statement.{statement}
-use Rattle.load_cases.proofs.decimal.Tie as tie
+use Rattle.case_text.proofs.put_all.Statement.{statement}
+use Rattle.case_text.proofs.put_all.Tie as tie
 
 abbrev Inv-loop : tie.InvT-loop
-Inv-loop text v₀ i₀ v i = v ≤ 18446744073709551615
+Inv-loop out₀ from text at₀ i₀ out at i = (i ≤ length text) × (length out ≡ length out₀)
 
 abbrev μ-loop : tie.MeasureT-loop
-μ-loop text v₀ i₀ v i = length text - i
+μ-loop out₀ from text at₀ i₀ out at i = length text - i
 
-pub decimal-spec : {M : Type 1} → statement M
-decimal-spec =
+pub put-all-spec : {M : Type 1} → statement M
+put-all-spec =
     tie.close
     (tie.spec
     Inv-loop
     μ-loop
-    (λ c. search needs)
-    (λ c. search needs)
     (λ c. search needs)
     (λ c. search needs)
     (λ c κs. search needs)

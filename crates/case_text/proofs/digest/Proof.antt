@@ -1,8 +1,8 @@
 use borrow.Author.Needs.{needs}
 use Prim.Native.Nat.{_-_, _≤_, _<_}
 use lib.ListN.{length}
-use Rattle.load_cases.proofs.digest.Statement.{statement}
-use Rattle.load_cases.proofs.digest.Tie as tie
+use Rattle.case_text.proofs.digest.Statement.{statement}
+use Rattle.case_text.proofs.digest.Tie as tie
 
 abbrev Inv-loop : tie.InvT-loop
 Inv-loop numbers d₀ i₀ d i = (i ≤ length numbers) × (d < 4294967296)

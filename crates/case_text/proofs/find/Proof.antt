@@ -1,8 +1,8 @@
 use borrow.Author.Needs.{needs}
 use Prim.Native.Nat.{_-_, _≤_}
 use lib.ListN.{length}
-use Rattle.check_cases.proofs.find.Statement.{statement}
-use Rattle.check_cases.proofs.find.Tie as tie
+use Rattle.case_text.proofs.find.Statement.{statement}
+use Rattle.case_text.proofs.find.Tie as tie
 
 abbrev Inv-loop : tie.InvT-loop
 Inv-loop text byte i₀ i = i ≤ length text
