@@ -95,15 +95,15 @@ no-facts : {A : Type 0} {fault : Fault} {line : ℕ} {r : Record} {next : ℕ} �
 no-facts e = absurd (let z : _≡_ {A = ℕ} 0 1 = cc in omega arith)
 
 -- a line that was followed by others holds a number
-record Held (l : NumberLine) (more : ℕ → ℕ → Facts) (r : Record) (next : ℕ) : Type 0 where
+record Followed (l : NumberLine) (more : ℕ → ℕ → Facts) (r : Record) (next : ℕ) : Type 0 where
   value : ℕ
   then : ℕ
   is : l ≡ N.Value value then
   rest : more value then ≡ F.Read r next
 
-held : (l : NumberLine) (line : ℕ) (more : ℕ → ℕ → Facts) (r : Record) (next : ℕ) → afterNumber F.Refused l line more ≡ F.Read r next → Held l more r next
-held (N.Value v n) line more r next e = record { value = v; then = n; is = refl; rest = e }
-held (N.Wrong fault) line more r next e = no-facts e
+followed : (l : NumberLine) (line : ℕ) (more : ℕ → ℕ → Facts) (r : Record) (next : ℕ) → afterNumber F.Refused l line more ≡ F.Read r next → Followed l more r next
+followed (N.Value v n) line more r next e = record { value = v; then = n; is = refl; rest = e }
+followed (N.Wrong fault) line more r next e = no-facts e
 
 same-record : (a : Record) (n : ℕ) (b : Record) (m : ℕ) → F.Read a n ≡ F.Read b m → a ≡ b
 same-record a n b m e = cc
@@ -111,10 +111,10 @@ same-record a n b m e = cc
 pub facts-told : (names : ℕ) (s : List ℕ) (at : ℕ) (r : Record) (next : ℕ) → factsFrom names s at ≡ F.Read r next → FactsTold names r
 unfolding factsFrom lastFacts
 facts-told names s at r next e =
-    let a = held (numberLine (bytes "local=") 0 (names - 1) s at) (names + 3) _ r next e in
-    let b = held (numberLine (bytes "start=") 0 1 s (a .then)) (names + 4) _ r next (a .rest) in
-    let c = held (numberLine (bytes "sole=") 0 1 s (b .then)) (names + 5) _ r next (b .rest) in
-    let d = held (numberLine (bytes "rows=") 1 2000 s (c .then)) (names + 6) _ r next (c .rest) in
+    let a = followed (numberLine (bytes "local=") 0 (names - 1) s at) (names + 3) _ r next e in
+    let b = followed (numberLine (bytes "start=") 0 1 s (a .then)) (names + 4) _ r next (a .rest) in
+    let c = followed (numberLine (bytes "sole=") 0 1 s (b .then)) (names + 5) _ r next (b .rest) in
+    let d = followed (numberLine (bytes "rows=") 1 2000 s (c .then)) (names + 6) _ r next (c .rest) in
     let i : record { names = names; rows = d .value; local = a .value; start = b .value; sole = c .value } ≡ r = same-record _ (d .then) r next (d .rest) in
     rw (← i)
     (record {

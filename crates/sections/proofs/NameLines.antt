@@ -17,7 +17,7 @@ use Rattle.sections.proofs.Puts.{put-length}
 use Rattle.sections.proofs.Going.{Going, going-start, going-done, going-filled, going-wrong, wrong-filled, going-next}
 
 -- what the loop over the names knows; the name before stands from `before` to `end`
-pub record Naming (s : List ℕ) (from count : ℕ) (t₀ t : List ℕ) (at left line w before end : ℕ) : Type 0 where
+pub record NameLoop (s : List ℕ) (from count : ℕ) (t₀ t : List ℕ) (at left line w before end : ℕ) : Type 0 where
   pub going : Going (nameStep s) 3 count from 3 t (take (end - before) (drop before s)) at left line w
   pub kept : length t ≡ length t₀
   pub ordered : before ≤ end
@@ -25,40 +25,40 @@ pub record Naming (s : List ℕ) (from count : ℕ) (t₀ t : List ℕ) (at left
   pub place : w + 3 * left ≡ 3 * count
   pub counted : line + left ≡ 3 + count
 
-pub naming-start : (s : List ℕ) (from count : ℕ) (t : List ℕ) → Naming s from count t t from count 3 0 0 0
-naming-start s from count t = record { going = going-start (nameStep s) 3 count from 3 t; kept = refl; ordered = omega arith; within = omega arith; place = omega arith; counted = refl }
+pub name-loop-start : (s : List ℕ) (from count : ℕ) (t : List ℕ) → NameLoop s from count t t from count 3 0 0 0
+name-loop-start s from count t = record { going = going-start (nameStep s) 3 count from 3 t; kept = refl; ordered = omega arith; within = omega arith; place = omega arith; counted = refl }
 
-module _ (s : List ℕ) (from count : ℕ) (t₀ t : List ℕ) (at left line w before end : ℕ) (g : Naming s from count t₀ t at left line w before end) where
-  pub naming-done : left ≤ 0 → Read at ≡ sectionOf (namesFrom count s from)
-  naming-done h = sym (ap sectionOf (going-done (nameStep s) 3 count from 3 t _ at left line w (g .going) h))
+module _ (s : List ℕ) (from count : ℕ) (t₀ t : List ℕ) (at left line w before end : ℕ) (g : NameLoop s from count t₀ t at left line w before end) where
+  pub name-loop-done : left ≤ 0 → Read at ≡ sectionOf (namesFrom count s from)
+  name-loop-done h = sym (ap sectionOf (going-done (nameStep s) 3 count from 3 t _ at left line w (g .going) h))
 
-  pub naming-filled : left ≤ 0 → Filled 3 count (namesFrom count s from) t
-  naming-filled h = going-filled (nameStep s) 3 count from 3 t _ at left line w (g .going) h
+  pub name-loop-filled : left ≤ 0 → Filled 3 count (namesFrom count s from) t
+  name-loop-filled h = going-filled (nameStep s) 3 count from 3 t _ at left line w (g .going) h
 
   module _ (more : 0 < left) (r : NameLine) (q : r ≡ nameLine (take (end - before) (drop before s)) s at) where
     step-wrong : (fault : Fault) → r ≡ M.Wrong fault → nameStep s (take (end - before) (drop before s)) at ≡ wrong fault
     unfolding nameStep
     step-wrong fault e = rw (← q, e)
 
-    pub naming-wrong : (fault : Fault) → r ≡ M.Wrong fault → Refused fault line ≡ sectionOf (namesFrom count s from)
-    naming-wrong fault e = sym (ap sectionOf (going-wrong (nameStep s) 3 count from 3 t _ at left line w (g .going) more fault (step-wrong fault e)))
+    pub name-loop-wrong : (fault : Fault) → r ≡ M.Wrong fault → Refused fault line ≡ sectionOf (namesFrom count s from)
+    name-loop-wrong fault e = sym (ap sectionOf (going-wrong (nameStep s) 3 count from 3 t _ at left line w (g .going) more fault (step-wrong fault e)))
 
-    pub naming-wrong-filled : (fault : Fault) → r ≡ M.Wrong fault → Filled 3 count (namesFrom count s from) t
-    naming-wrong-filled fault e = wrong-filled (nameStep s) 3 count from 3 t _ at left line w (g .going) more fault t (step-wrong fault e)
+    pub name-loop-wrong-filled : (fault : Fault) → r ≡ M.Wrong fault → Filled 3 count (namesFrom count s from) t
+    name-loop-wrong-filled fault e = wrong-filled (nameStep s) 3 count from 3 t _ at left line w (g .going) more fault t (step-wrong fault e)
 
     module _ (name : Name) (next : ℕ) (e : r ≡ M.Read name next) where
       in-sheet : name .offset + name .length ≤ length s
       in-sheet = name-within _ s at name next (name-told _ s at name next (sym q ∙ e))
 
-      pub naming-offset : Short s → name .offset ≤ 65536
-      naming-offset h = omega (arith, in-sheet, h .bytes)
+      pub name-loop-offset : Short s → name .offset ≤ 65536
+      name-loop-offset h = omega (arith, in-sheet, h .bytes)
 
-      pub naming-length : Short s → name .length ≤ 65536
-      naming-length h = omega (arith, in-sheet, h .bytes)
+      pub name-loop-length : Short s → name .length ≤ 65536
+      name-loop-length h = omega (arith, in-sheet, h .bytes)
 
-      pub naming-next : (u : List ℕ) → u ≡ put t w (nameNumbers name) → (stop : ℕ) → stop ≡ name .offset + name .length → Naming s from count t₀ u next (left - 1) (line + 1) (w + 3) (name .offset) stop
+      pub name-loop-next : (u : List ℕ) → u ≡ put t w (nameNumbers name) → (stop : ℕ) → stop ≡ name .offset + name .length → NameLoop s from count t₀ u next (left - 1) (line + 1) (w + 3) (name .offset) stop
       unfolding nameStep
-      naming-next u p stop m =
+      name-loop-next u p stop m =
           let text : take (stop - name .offset) (drop (name .offset) s) ≡ nameText s name = rw (m, add-sub-cancel-left) in
           record {
             going = rw text (going-next (nameStep s) 3 count from 3 t _ at left line w (g .going) more (nameNumbers name) (nameText s name) next (rw (← q, e)) refl u p);
@@ -69,4 +69,4 @@ module _ (s : List ℕ) (from count : ℕ) (t₀ t : List ℕ) (at left line w b
             counted = omega (arith, g .counted);
           }
 
-pub ruleset answers = (naming-start, naming-done, naming-filled, naming-wrong, naming-wrong-filled, naming-offset, naming-length, naming-next)
+pub ruleset answers = (name-loop-start, name-loop-done, name-loop-filled, name-loop-wrong, name-loop-wrong-filled, name-loop-offset, name-loop-length, name-loop-next)

@@ -25,8 +25,8 @@ use Rattle.sheet.specs.declared.Refusal.the-variants.{TooLong, Line, NoR
 use Rattle.sheet.specs.declared.Loaded.{Loaded}
 use Rattle.sheet.specs.declared.Loaded.the-variants.{Done, Refused}
 use Rattle.sheet.specs.Load.{Parsed, parsed, wrong, linesOf, Result, refuse, tableOf, hasRoom, afterChecks, checkedAnswer, withTables, finishOf, afterParse, loadOf}
-use Rattle.sheet.specs.Naming.{namePlace, partAt, textOf}
-use Rattle.sheet.proofs.Reading.{RecordTold, Parts, before-parts}
+use Rattle.sheet.specs.NameText.{namePlace, partAt, textOf}
+use Rattle.sheet.proofs.Reading.{RecordTold, BeforeParts, before-parts}
 use Rattle.sheet.proofs.Finishing.{never}
 use Rattle.sheet.proofs.Loading.{LinesTold, lines-told, record-told}
 
@@ -132,7 +132,7 @@ module _ (s : List ℕ) (rowRoom nameRoom : ℕ) (r : Record) (g : GoodLoad s ro
   told : LinesTold s r (g .nameNumbers) (g .rowNumbers)
   told = lines-told s r (g .nameNumbers) (g .rowNumbers) (g .lines)
 
-  parts : Parts s r (g .nameNumbers) (told .rows-at)
+  parts : BeforeParts s r (g .nameNumbers) (told .rows-at)
   parts = before-parts s r (g .nameNumbers) (told .rows-at) (told .first)
 
   row-count : length (g .rowNumbers) ≡ 5 * r .rows

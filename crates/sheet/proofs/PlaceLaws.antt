@@ -14,7 +14,7 @@ use Rattle.sheet.specs.declared.Refusal.{Refusal}
 use Rattle.sheet.specs.declared.Refusal.the-variants.{WrongRecord, NoName}
 use Rattle.sheet.specs.declared.Named.{Named}
 use Rattle.sheet.specs.declared.Named.the-variants.{At, Refused}
-use Rattle.sheet.specs.Naming.{namePlace, partAt, textOf}
+use Rattle.sheet.specs.NameText.{namePlace, partAt, textOf}
 
 -- the place
 module _ (s : List ℕ) (r : Record) (table : List ℕ) (i : ℕ) (b : Bool) (q : b ≡ recordFits r) where

@@ -47,18 +47,18 @@ not-stopped : {A : Type 0} {fault : Fault} {line : ℕ} {r : Record} {numbers : 
 not-stopped e = apart (cc)
 
 -- the parts of lines before the rows that are right
-pub record Parts (s : List ℕ) (r : Record) (numbers : List ℕ) (next : ℕ) : Type 0 where
+pub record BeforeParts (s : List ℕ) (r : Record) (numbers : List ℕ) (next : ℕ) : Type 0 where
   pub names-at : ℕ
   pub facts-at : ℕ
   pub head : headOf s ≡ H.Read (r .names) names-at
   pub names : namesFrom (r .names) s names-at ≡ read numbers facts-at
   pub facts : factsFrom (r .names) s facts-at ≡ F.Read r next
 
-pub before-parts : (s : List ℕ) (r : Record) (numbers : List ℕ) (next : ℕ) → beforeRows s ≡ before r numbers next → Parts s r numbers next
+pub before-parts : (s : List ℕ) (r : Record) (numbers : List ℕ) (next : ℕ) → beforeRows s ≡ before r numbers next → BeforeParts s r numbers next
 unfolding beforeRows
 before-parts s r numbers next e = from-head (headOf s) refl e
   where
-    from-facts : (count at : ℕ) (ns : List ℕ) (then : ℕ) → headOf s ≡ H.Read count at → namesFrom count s at ≡ read ns then → (f : Facts) → factsFrom count s then ≡ f → withNames ns f ≡ before r numbers next → Parts s r numbers next
+    from-facts : (count at : ℕ) (ns : List ℕ) (then : ℕ) → headOf s ≡ H.Read count at → namesFrom count s at ≡ read ns then → (f : Facts) → factsFrom count s then ≡ f → withNames ns f ≡ before r numbers next → BeforeParts s r numbers next
     from-facts count at ns then h n (F.Read q m) f e =
         let w : ns ≡ numbers = cc in
         let y : q ≡ r = cc in
@@ -74,11 +74,11 @@ before-parts s r numbers next e = from-head (headOf s) refl e
         }
     from-facts count at ns then h n (F.Refused fault line) f e = not-stopped e
 
-    from-names : (count at : ℕ) → headOf s ≡ H.Read count at → (l : Lines) → namesFrom count s at ≡ l → afterNames l (λ ns then. withNames ns (factsFrom count s then)) ≡ before r numbers next → Parts s r numbers next
+    from-names : (count at : ℕ) → headOf s ≡ H.Read count at → (l : Lines) → namesFrom count s at ≡ l → afterNames l (λ ns then. withNames ns (factsFrom count s then)) ≡ before r numbers next → BeforeParts s r numbers next
     from-names count at h (read ns then) n e = from-facts count at ns then h n (factsFrom count s then) refl e
     from-names count at h (refused fault line) n e = not-stopped e
 
-    from-head : (h : Head) → headOf s ≡ h → afterHead h (λ count at. afterNames (namesFrom count s at) (λ ns then. withNames ns (factsFrom count s then))) ≡ before r numbers next → Parts s r numbers next
+    from-head : (h : Head) → headOf s ≡ h → afterHead h (λ count at. afterNames (namesFrom count s at) (λ ns then. withNames ns (factsFrom count s then))) ≡ before r numbers next → BeforeParts s r numbers next
     from-head (H.Read count at) h e = from-names count at h (namesFrom count s at) refl e
     from-head (H.Refused fault line) h e = not-stopped e
 
@@ -139,7 +139,7 @@ module _ (s : List ℕ) (h : Head) (p : h ≡ headOf s) where
       pub names-filled : (t : List ℕ) → Filled 3 count (namesFrom count s at) t → NamesFilled s t
       names-filled t w = record { front = λ r ns n b k. front r ns (before-parts s r ns n b) k }
         where
-          front : (r : Record) (ns : List ℕ) {n : ℕ} → Parts s r ns n → 3 * r .names ≤ length t → take (3 * r .names) t ≡ ns
+          front : (r : Record) (ns : List ℕ) {n : ℕ} → BeforeParts s r ns n → 3 * r .names ≤ length t → take (3 * r .names) t ≡ ns
           front r ns parts k =
               let h : H.Read count at ≡ H.Read (r .names) (parts .names-at) = sym d ∙ p ∙ parts .head in
               let x : count ≡ r .names = cc in

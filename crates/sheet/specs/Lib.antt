@@ -1,3 +1,3 @@
 pub mod Load
 pub mod Steps
-pub mod Naming
+pub mod NameText

@@ -12,7 +12,7 @@ ghost use lib.ListN.{length, take, replicate};
 ghost use Rattle.sections.specs.Sections.{Short};
 ghost use Rattle.sheet.specs.Load.{refusalNumber, refusalOf, placeOf, recordOf, beforeRows, lineOf, linesOf, checkedAnswer, loadOf};
 ghost use Rattle.sheet.specs.Steps.{factsOf, answerOf, NamesFilled, BothFilled, Room, GoodFilled, finishFronts, isRefused};
-ghost use Rattle.sheet.specs.Naming.{namePlace, partAt, textOf};
+ghost use Rattle.sheet.specs.NameText.{namePlace, partAt, textOf};
 
 // Why a load or a name is refused.
 pub enum Refusal {

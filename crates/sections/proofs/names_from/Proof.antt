@@ -1,10 +1,10 @@
 use borrow.Author.Needs.{needs}
-use Rattle.sections.proofs.NameLines.{Naming, answers}
+use Rattle.sections.proofs.NameLines.{NameLoop, answers}
 use Rattle.sections.proofs.names_from.Statement.{statement}
 use Rattle.sections.proofs.names_from.Tie as tie
 
 abbrev Inv-loop : tie.InvT-loop
-Inv-loop s from count names₀ at₀ left₀ line₀ w₀ before₀ before-end₀ names at left line w before before-end = Naming s from count names₀ names at left line w before before-end
+Inv-loop s from count names₀ at₀ left₀ line₀ w₀ before₀ before-end₀ names at left line w before before-end = NameLoop s from count names₀ names at left line w before before-end
 
 abbrev μ-loop : tie.MeasureT-loop
 μ-loop s from count names₀ at₀ left₀ line₀ w₀ before₀ before-end₀ names at left line w before before-end = left

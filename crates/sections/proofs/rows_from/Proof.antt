@@ -1,10 +1,10 @@
 use borrow.Author.Needs.{needs}
-use Rattle.sections.proofs.RowLines.{Rowing, answers}
+use Rattle.sections.proofs.RowLines.{RowLoop, answers}
 use Rattle.sections.proofs.rows_from.Statement.{statement}
 use Rattle.sections.proofs.rows_from.Tie as tie
 
 abbrev Inv-loop : tie.InvT-loop
-Inv-loop s from count names rows₀ entries at₀ left₀ line₀ w₀ rows at left line w = Rowing names s from count rows₀ rows at left line w
+Inv-loop s from count names rows₀ entries at₀ left₀ line₀ w₀ rows at left line w = RowLoop names s from count rows₀ rows at left line w
 
 abbrev μ-loop : tie.MeasureT-loop
 μ-loop s from count names rows₀ entries at₀ left₀ line₀ w₀ rows at left line w = left
