@@ -1,15 +1,19 @@
--- Keys: a key stands for one word.
+-- Keys: a key stands for one word, and is worked out letter by letter.
 use Prim.Native.Nat.{ℕ, zero, suc, _+_, _-_, _*_, _≤_, _<_}
-use mathlib.Core.Path.{_≡_, refl, _∙_}
-use mathlib.Core.Bool.{true, false, and-false}
+use mathlib.Core.Path.{_≡_, refl, sym, ap, _∙_}
+use mathlib.Core.Bool.{Bool, true, false, cond}
+use mathlib.Core.Logic.{_⊎_, inl, inr}
 use mathlib.Core.List.{List, [], _∷_}
-use native.Mathlib.Nat.{add-zero, add-suc}
+use native.Mathlib.Nat.{add-zero, add-suc, add-assoc, mul-zero, mul-comm, mul-assoc, mul-add, mul-le-mul-right}
+use native.Mathlib.Numerals.{add-one}
 use native.Mathlib.Omega.{arith}
-use lib.ListN.{length, getD, drop, length-drop}
-use lib.Seq.{drop-cons, drop-length}
+use lib.ListN.{length, getD, drop, drop-of-length-le}
+use lib.Seq.{drop-cons}
 use lib.Dec.{leb}
-use borrow.Author.Tests.{leb-true, le-leb, lt-leb}
-use Rattle.kinds.specs.Numbers.{key, letters, isLetter, keyOf}
+use borrow.Author.Tests.{leb-true, leb-false, le-leb, lt-leb}
+use mir.Val.{Fits}
+use mir.Syntax.{w64}
+use Rattle.kinds.specs.Numbers.{key, letters, isLetter, lettersUpTo, lettersOf, twelveFrom, KeyTold}
 use Rattle.kinds.proofs.Below.{both-true}
 
 record Letter (b : ℕ) : Type 0 where
@@ -35,85 +39,173 @@ one-word (a ∷ v) (b ∷ w) p q e =
     let y : v ≡ w = one-word v w (s .1) (t .1) (omega arith) in
     cc
 
-bound : ℕ → ℕ
+-- the letters that are read
+module _ (n b : ℕ) (t : List ℕ) where
+  one-more : isLetter b ≡ true → lettersUpTo (suc n) (b ∷ t) ≡ suc (lettersUpTo n t)
+  unfolding lettersUpTo
+  one-more e = rw e
+
+  no-more : isLetter b ≡ false → lettersUpTo (suc n) (b ∷ t) ≡ 0
+  unfolding lettersUpTo
+  no-more e = rw e
+
+none-left : (n : ℕ) → lettersUpTo n [] ≡ 0
+unfolding lettersUpTo
+none-left zero = refl
+none-left (suc n) = refl
+
+pub letters-read : (n : ℕ) (t : List ℕ) → letters (lettersOf n t) ≡ true
+unfolding lettersUpTo letters
+letters-read zero t = refl
+letters-read (suc n) [] = refl
+letters-read (suc n) (b ∷ t) = go (isLetter b) refl (letters-read n t)
+  where
+    go : (l : Bool) → isLetter b ≡ l → letters (lettersOf n t) ≡ true → letters (lettersOf (suc n) (b ∷ t)) ≡ true
+    go true e ih = rw (e, e) ih
+    go false e ih = rw e
+
+-- a word of at most n letters is read whole
+pub whole-word : (n : ℕ) (w : List ℕ) → letters w ≡ true → length w ≤ n → lettersUpTo n w ≡ length w
+unfolding letters
+whole-word n [] p h = none-left n
+whole-word zero (b ∷ w) p h = absurd (omega arith)
+whole-word (suc n) (b ∷ w) p h =
+    let s = both-true (isLetter b) (letters w) p in
+    one-more n b w (s .0) ∙ ap suc (whole-word n w (s .1) (omega arith))
+
+-- the place where the reading ends at the latest
+module _ (size at : ℕ) where
+  pub twelve-past : size < at → size ≡ twelveFrom size at
+  unfolding twelveFrom
+  twelve-past h = rw (lt-leb (at + 12) size (omega arith))
+
+  module _ (h : at ≤ size) where
+    pub twelve-short : size - at < 12 → size ≡ twelveFrom size at
+    unfolding twelveFrom
+    twelve-short l = rw (lt-leb (at + 12) size (omega arith))
+
+    pub twelve-all : 12 ≤ size - at → at + 12 ≡ twelveFrom size at
+    unfolding twelveFrom
+    twelve-all l = rw (le-leb (at + 12) size (omega arith))
+
+record Latest (size at end : ℕ) : Type 0 where
+  within : end ≤ size
+  few : end ≤ at + 12
+  either : (end ≡ size) ⊎ (end ≡ at + 12)
+
+latest : (size at end : ℕ) → end ≡ twelveFrom size at → Latest size at end
+unfolding twelveFrom
+latest size at end e = go (leb (at + 12) size) refl e
+  where
+    go : (b : Bool) → leb (at + 12) size ≡ b → end ≡ cond b (at + 12) size → Latest size at end
+    go true q p = record { within = omega (arith, leb-true (at + 12) size q); few = omega arith; either = inr p }
+    go false q p = record { within = omega arith; few = omega (arith, leb-false (at + 12) size q); either = inl p }
+
+-- what a letter after n others counts for in a key
+unfoldable pub bound : ℕ → ℕ
 bound zero = 1
 bound (suc n) = 32 * bound n
-
-key-bound : (w : List ℕ) → letters w ≡ true → key w < bound (length w)
-unfolding letters key bound
-key-bound [] p = omega arith
-key-bound (b ∷ w) p =
-    let s = both-true (isLetter b) (letters w) p in
-    let l = letter b (s .0) in
-    let h = key-bound w (s .1) in
-    omega arith
 
 grows : (n d : ℕ) → bound n ≤ bound (n + d)
 unfolding bound
 grows n zero = rw add-zero (omega arith)
 grows n (suc d) = let h = grows n d in rw add-suc (omega arith)
 
-key-small : (w : List ℕ) → letters w ≡ true → length w ≤ 11 → key w < 36028797018963968
+few-bound : (n : ℕ) → n ≤ 11 → bound n ≤ 36028797018963968
 unfolding bound
-key-small w p h =
-    let e : length w + (11 - length w) ≡ 11 = omega arith in
-    let g : bound (length w) ≤ bound 11 = rw e at (grows (length w) (11 - length w)) in
-    omega (arith, key-bound w p)
+few-bound n h =
+    let e : n + (11 - n) ≡ 11 = omega arith in
+    rw e at (grows n (11 - n))
 
--- a byte that is no letter
-no-letters : (w : List ℕ) (i : ℕ) → i < length w → isLetter (getD w i 0) ≡ false → letters w ≡ false
-unfolding letters
-no-letters [] i h e = absurd (omega arith)
-no-letters (b ∷ w) zero h e = rw e
-no-letters (b ∷ w) (suc i) h e = rw (no-letters w i (omega arith) e) (and-false (isLetter b))
+step : (v c d k : ℕ) → v + c * (d + 32 * k) ≡ v + d * c + c * 32 * k
+step v c d k = rw (mul-add c d (32 * k), mul-comm c d, ← mul-assoc c 32 k) (sym (add-assoc v (d * c) (c * 32 * k)))
 
--- the loop of key_of has read the bytes from i on
-pub record Read (s : List ℕ) (i v : ℕ) : Type 0 where
-  pub upto : i ≤ length s
-  pub short : length s ≤ 11
-  pub spelt : letters (drop i s) ≡ true
-  pub is : v ≡ key (drop i s)
-  pub small : v < 36028797018963968
+-- what the reading of letters knows at place i: the key of the letters passed, and what a letter there adds to it
+pub record Spelling (s : List ℕ) (at i value scale : ℕ) : Type 0 where
+  pub from : at ≤ i
+  pub scaled : scale ≡ bound (i - at)
+  pub small : value < scale
+  pub is : key (lettersOf 12 (drop at s)) ≡ value + scale * key (lettersOf (at + 12 - i) (drop i s))
+  pub past : at + lettersUpTo 12 (drop at s) ≡ i + lettersUpTo (at + 12 - i) (drop i s)
 
-read : (s : List ℕ) (i v : ℕ) → i ≤ length s → length s ≤ 11 → letters (drop i s) ≡ true → v ≡ key (drop i s) → Read s i v
-read s i v u h l e = record { upto = u; short = h; spelt = l; is = e; small = rw e (key-small (drop i s) l (simp length-drop (omega arith))) }
+pub spell-start : (s : List ℕ) (at : ℕ) → Spelling s at at 0 1
+unfolding bound
+spell-start s at =
+    let z : at - at ≡ 0 = omega arith in
+    let t : at + 12 - at ≡ 12 = omega arith in
+    record { from = omega arith; scaled = rw z; small = omega arith; is = rw t (omega arith); past = rw t }
 
-pub read-none : (s : List ℕ) → length s ≤ 11 → Read s (length s) 0
-unfolding letters key
-read-none s h = read s (length s) 0 (omega arith) h (rw drop-length) (rw drop-length)
+module _ (s : List ℕ) (at i value scale : ℕ) (w : Spelling s at i value scale) where
+  -- no letter is read from here on
+  ended : lettersUpTo (at + 12 - i) (drop i s) ≡ 0 → KeyTold s at value i
+  unfolding key
+  ended z = record { is = sym (w .is ∙ rw (z, mul-zero, add-zero)); past = sym (w .past ∙ rw (z, add-zero)) }
 
-pub key-long : (s : List ℕ) → 11 < length s → 0 ≡ keyOf s
-unfolding keyOf
-key-long s h = rw (lt-leb (length s) 11 h)
+  module _ (end : ℕ) (e : end ≡ twelveFrom (length s) at) where
+    pub spell-end : end ≤ i → KeyTold s at value i
+    unfolding lettersUpTo
+    spell-end h = go (latest (length s) at end e .either)
+      where
+        go : (end ≡ length s) ⊎ (end ≡ at + 12) → KeyTold s at value i
+        go (inl q) = let p : length s ≤ i = omega arith in ended (rw (drop-of-length-le s p) (none-left (at + 12 - i)))
+        go (inr q) = let z : at + 12 - i ≡ 0 = omega arith in ended (rw z)
 
--- the byte before the place come to
-module _ (s : List ℕ) (i v b : ℕ) (r : Read s i v) (p : 0 < i) (e : b ≡ getD s (i - 1) 0) where
-  key-not : isLetter b ≡ false → 0 ≡ keyOf s
-  unfolding keyOf
-  key-not n = rw (le-leb (length s) 11 (r .short), no-letters s (i - 1) (omega (arith, r .upto)) (rw (← e) n))
+    module _ (h : i < end) where
+      pub spell-within : i < length s
+      spell-within = omega (arith, latest (length s) at end e .within)
 
-  pub key-low : b < 97 → 0 ≡ keyOf s
-  unfolding isLetter
-  key-low n = key-not (rw (lt-leb 97 b n))
+      rest : ℕ
+      rest = at + 12 - (i + 1)
 
-  pub key-high : 97 ≤ b → 122 < b → 0 ≡ keyOf s
-  unfolding isLetter
-  key-high l n = key-not (rw (le-leb 97 b l, lt-leb b 122 n))
+      left : at + 12 - i ≡ suc rest
+      unfolding rest
+      left = omega (arith, latest (length s) at end e .few)
 
-  here : drop (i - 1) s ≡ b ∷ drop i s
-  here =
-      let q : suc (i - 1) ≡ i = omega arith in
-      drop-cons s (i - 1) 0 (omega (arith, r .upto)) ∙ rw (q, e)
+      here : drop i s ≡ getD s i 0 ∷ drop (i + 1) s
+      here = drop-cons s i 0 spell-within ∙ rw add-one
 
-  pub read-more : 97 ≤ b → b ≤ 122 → Read s (i - 1) (v * 32 + (b - 96))
-  unfolding letters isLetter key
-  read-more l h =
-      read s (i - 1) (v * 32 + (b - 96)) (omega (arith, r .upto)) (r .short)
-      (rw (here, le-leb 97 b l, le-leb b 122 h) (r .spelt))
-      (rw here (omega (arith, r .is)))
+      module _ (b : ℕ) (q : b ≡ getD s i 0) where
+        stopped : isLetter b ≡ false → KeyTold s at value i
+        stopped n = ended (rw (left, here, ← q) (no-more rest b (drop (i + 1) s) n))
 
-pub key-read : (s : List ℕ) (i v : ℕ) → Read s i v → i ≤ 0 → v ≡ keyOf s
-unfolding keyOf
-key-read s i v r z = let q : i ≡ 0 = omega arith in rw (le-leb (length s) 11 (r .short), rw q at (r .spelt)) (rw q at (r .is))
+        pub spell-low : b < 97 → KeyTold s at value i
+        unfolding isLetter
+        spell-low l = stopped (rw (lt-leb 97 b l))
 
-pub ruleset answers = (key-long, key-low, key-high, key-read, read-none, read-more)
+        pub spell-high : 97 ≤ b → 122 < b → KeyTold s at value i
+        unfolding isLetter
+        spell-high l g = stopped (rw (le-leb 97 b l, lt-leb b 122 g))
+
+        module _ (l : 97 ≤ b) (g : b ≤ 122) where
+          is-letter : isLetter b ≡ true
+          unfolding isLetter
+          is-letter = rw (le-leb 97 b l, le-leb b 122 g)
+
+          room : scale ≤ 36028797018963968
+          room = rw (w .scaled) (few-bound (i - at) (omega (arith, latest (length s) at end e .few)))
+
+          product : (b - 96) * scale ≤ 26 * scale
+          product = mul-le-mul-right scale (omega arith)
+
+          pub spell-product : Fits w64 ((b - 96) * scale)
+          spell-product = record { fits = omega (arith, product, room) }
+
+          pub spell-sum : Fits w64 (value + (b - 96) * scale)
+          spell-sum = record { fits = omega (arith, product, room, w .small) }
+
+          pub spell-scale : Fits w64 (scale * 32)
+          spell-scale = record { fits = omega (arith, room) }
+
+          pub spell-on : Spelling s at (i + 1) (value + (b - 96) * scale) (scale * 32)
+          unfolding bound rest key
+          spell-on =
+              let n : i + 1 - at ≡ suc (i - at) = omega (arith, w .from) in
+              record {
+                from = omega (arith, w .from);
+                scaled = rw n (omega (arith, w .scaled));
+                small = omega (arith, product, w .small);
+                is = w .is ∙ rw (left, here, ← q, one-more rest b (drop (i + 1) s) is-letter) (step value scale (b - 96) _);
+                past = w .past ∙ rw (left, here, ← q, one-more rest b (drop (i + 1) s) is-letter) (omega arith);
+              }
+
+pub ruleset answers = (twelve-past, twelve-short, twelve-all, spell-start, spell-end, spell-within, spell-low, spell-high, spell-product, spell-sum, spell-scale, spell-on)

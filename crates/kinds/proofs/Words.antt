@@ -1,25 +1,27 @@
--- The word lookup: a kind's key is no other byte string's, so the key of a byte string finds its kind, if it has one.
-use Prim.Native.Nat.{ℕ, zero, suc, _+_, _<_}
+-- The word lookup: a kind's key is no other word's, so the key of some small letters finds their kind, if they have one.
+use Prim.Native.Nat.{ℕ, zero, suc, _+_, _≤_, _<_}
 use mathlib.Core.Path.{_≡_, refl, sym, ap, _∙_}
 use mathlib.Core.Bool.{Bool, true, false, _&&_}
 use mathlib.Core.List.{List, [], _∷_}
+use native.Mathlib.Nat.{zero-add}
 use native.Mathlib.Omega.{arith}
-use lib.ListN.{length, getD}
+use lib.ListN.{length, getD, drop}
+use lib.Seq.{take-length}
 use lib.Dec.{eqb, leb, ltb}
-use borrow.Author.Tests.{eqb-true, ltb-true}
+use borrow.Author.Tests.{eqb-true, leb-true, ltb-true}
 use Rattle.kinds.specs.declared.Found.{Found}
 use Rattle.kinds.specs.declared.Found.the-variants.{Is, Unknown}
 use Rattle.kinds.specs.Kinds.{Entry, kinds, noEntry, entry}
 use Rattle.kinds.specs.Words.{same, placeFrom, kindOf}
-use Rattle.kinds.specs.Numbers.{key, keyOf, letters, isLetter}
+use Rattle.kinds.specs.Numbers.{key, letters, isLetter, lettersUpTo, lettersOf, KeyTold, KindTold}
 use Rattle.kinds.proofs.Below.{true-not-false, both-true, everyBelow, below}
-use Rattle.kinds.proofs.Keys.{one-word}
+use Rattle.kinds.proofs.Keys.{one-word, letters-read, whole-word}
 use Rattle.kinds.proofs.Numbers.{kinds-count}
 
 abbrev wordOf : ℕ → List ℕ
 wordOf k = entry k .word
 
--- the computed test of the whole table: each word is found, has a key, and is spelt in few small letters
+-- the computed test of the whole table: each word is found, and is spelt in few small letters
 
 isAt : ℕ → Found → Bool
 isAt k (Is j) = eqb j k
@@ -31,42 +33,27 @@ at-is k (Is j) e = ap Is (eqb-true j k e)
 at-is k Unknown e = true-not-false (cc)
 
 good : ℕ → Bool
-good k = isAt k (kindOf (wordOf k)) && (ltb 0 (key (wordOf k)) && (leb (length (wordOf k)) 11 && letters (wordOf k)))
+good k = isAt k (kindOf (wordOf k)) && (leb (length (wordOf k)) 12 && letters (wordOf k))
 
 all-good : everyBelow good 66 ≡ true
-unfolding everyBelow good isAt kindOf placeFrom entry kinds same letters isLetter key
+unfolding everyBelow good isAt kindOf placeFrom entry kinds same letters isLetter
 all-good = refl
 
 record Good (k : ℕ) : Type 0 where
   found : kindOf (wordOf k) ≡ Is k
-  some : 0 < key (wordOf k)
-  short : leb (length (wordOf k)) 11 ≡ true
+  short : length (wordOf k) ≤ 12
   spelt : letters (wordOf k) ≡ true
 
 good-at : (k : ℕ) → k < 66 → Good k
 unfolding good
 good-at k h =
     let a = both-true (isAt k (kindOf (wordOf k))) _ (below good 66 all-good k h) in
-    let b = both-true (ltb 0 (key (wordOf k))) _ (a .1) in
-    let c = both-true (leb (length (wordOf k)) 11) (letters (wordOf k)) (b .1) in
-    record { found = at-is k (kindOf (wordOf k)) (a .0); some = ltb-true 0 (key (wordOf k)) (b .0); short = c .0; spelt = c .1 }
+    let b = both-true (leb (length (wordOf k)) 12) (letters (wordOf k)) (a .1) in
+    record { found = at-is k (kindOf (wordOf k)) (a .0); short = leb-true (length (wordOf k)) 12 (b .0); spelt = b .1 }
 
-key-word : (k : ℕ) → k < 66 → keyOf (wordOf k) ≡ key (wordOf k)
-unfolding keyOf
-key-word k h = let g = good-at k h in rw (g .short, g .spelt)
-
--- a byte string with the key of a kind's word is that word
-find-known : (s : List ℕ) (k : ℕ) → k < 66 → key (wordOf k) ≡ keyOf s → Is k ≡ kindOf s
-unfolding keyOf
-find-known s k h e = go (leb (length s) 11) (letters s) refl refl
-  where
-    go : (a b : Bool) → leb (length s) 11 ≡ a → letters s ≡ b → Is k ≡ kindOf s
-    go true true p q =
-        let x : key s ≡ key (wordOf k) = sym (rw (p, q) at e) in
-        let w : s ≡ wordOf k = one-word s (wordOf k) q (good-at k h .spelt) x in
-        rw w (sym (good-at k h .found))
-    go true false p q = let z : key (wordOf k) ≡ 0 = rw (p, q) at e in absurd (omega (arith, good-at k h .some))
-    go false b p q = let z : key (wordOf k) ≡ 0 = rw p at e in absurd (omega (arith, good-at k h .some))
+-- letters with the key of a kind's word are that word
+find-known : (s : List ℕ) (k : ℕ) → k < 66 → letters s ≡ true → key (wordOf k) ≡ key s → Is k ≡ kindOf s
+find-known s k h p e = rw (one-word s (wordOf k) p (good-at k h .spelt) (sym e)) (sym (good-at k h .found))
 
 same-is : (a b : List ℕ) → same a b ≡ true → a ≡ b
 unfolding same
@@ -111,8 +98,8 @@ module _ (s : List ℕ) (r : Found) (k : ℕ) (q : r ≡ kindOf s) (e : r ≡ Is
 pub word-found : (k : ℕ) → k < 66 → kindOf (entry k .word) ≡ Is k
 word-found k h = good-at k h .found
 
--- a byte string whose key is no kind's is no kind's word
-find-unknown : (s : List ℕ) → ((k : ℕ) → k < 66 → keyOf s ≡ key (wordOf k) → ⊥) → Unknown ≡ kindOf s
+-- a byte string that is no kind's word has no kind
+find-unknown : (s : List ℕ) → ((k : ℕ) → k < 66 → s ≡ wordOf k → ⊥) → Unknown ≡ kindOf s
 unfolding kindOf entry
 find-unknown s differs = go (kindOf s) refl
   where
@@ -120,13 +107,15 @@ find-unknown s differs = go (kindOf s) refl
     go Unknown q = refl
     go (Is j) q =
         let h = hit 0 s kinds j q in
-        let b : h .i < 66 = omega (arith, h .within, kinds-count) in
-        let w : s ≡ wordOf (h .i) = h .word in
-        absurd (differs (h .i) b (ap keyOf w ∙ key-word (h .i) b))
+        absurd (differs (h .i) (omega (arith, h .within, kinds-count)) (h .word))
+
+-- the letters that are read at its front are all of a kind's word
+pub not-whole : (s : List ℕ) → (lettersUpTo 12 s ≡ length s → ⊥) → Unknown ≡ kindOf s
+not-whole s n = find-unknown s (λ k h e. n (whole-word 12 s (rw e (good-at k h .spelt)) (rw e (good-at k h .short))))
 
 -- an arm of the match: the key is that of the kind k
-pub arm : (s : List ℕ) (k v : ℕ) → ltb k 66 ≡ true → v ≡ keyOf s → v ≡ key (entry k .word) → Is k ≡ kindOf s
-arm s k v h e q = find-known s k (ltb-true k 66 h) (sym q ∙ e)
+pub arm : (k v : ℕ) → ltb k 66 ≡ true → v ≡ key (entry k .word) → (w : List ℕ) → letters w ≡ true → v ≡ key w → Is k ≡ kindOf w
+arm k v h q w p e = find-known w k (ltb-true k 66 h) p (sym q ∙ e)
 
 -- what the last arm knows: the key differs from that of each entry, beside what was known before
 unfoldable pub Differs : ℕ → Type 0 → List Entry → Type 0
@@ -144,6 +133,22 @@ differs-at v known [] d k h = absurd (omega arith)
 differs-at v known (x ∷ es) d zero h = differs-known v (known × (v ≡ key (x .word) → ⊥)) es d .1
 differs-at v known (x ∷ es) d (suc k) h = differs-at v (known × (v ≡ key (x .word) → ⊥)) es d k (omega arith)
 
-pub no-arm : (s : List ℕ) (v : ℕ) → v ≡ keyOf s → Differs v (Unit {0}) kinds → Unknown ≡ kindOf s
+pub no-arm : (v : ℕ) → Differs v (Unit {0}) kinds → (w : List ℕ) → letters w ≡ true → v ≡ key w → Unknown ≡ kindOf w
 unfolding entry
-no-arm s v e d = find-unknown s (λ k h q. differs-at v (Unit {0}) kinds d k (omega (arith, kinds-count)) (e ∙ q))
+no-arm v d w p e = find-unknown w (λ k h q. differs-at v (Unit {0}) kinds d k (omega (arith, kinds-count)) (e ∙ ap key q))
+
+-- `find_kind_at`, once the letters' key has found a kind
+pub told-at : (s : List ℕ) (at value stop : ℕ) → KeyTold s at value stop → (r : Found) → ((w : List ℕ) → letters w ≡ true → value ≡ key w → r ≡ kindOf w) → KindTold s at r stop
+told-at s at value stop t r f = record { word = f (lettersOf 12 (drop at s)) (letters-read 12 (drop at s)) (t .is); past = t .past }
+
+-- `find_kind`, by the letters at the front of a word
+module _ (s : List ℕ) (r : Found) (stop : ℕ) (t : KindTold s 0 r stop) where
+  pub word-part : (stop ≡ length s → ⊥) → Unknown ≡ kindOf s
+  word-part n = not-whole s (λ e. n (t .past ∙ zero-add _ ∙ e))
+
+  pub word-whole : stop ≡ length s → r ≡ kindOf s
+  word-whole e =
+      let z : lettersUpTo 12 s ≡ length s = sym (zero-add _) ∙ sym (t .past) ∙ e in
+      t .word ∙ rw (z, take-length)
+
+pub ruleset answers = (told-at, word-part, word-whole)

@@ -1,10 +1,11 @@
 // The table of kinds: what document 01 says of each kind, as numbers, and the kind of a word.
 ghost use mathlib.Core.Path.{_≡_};
-ghost use mathlib.Core.Bool.{cond};
+ghost use mathlib.Core.Bool.{true, cond};
 ghost use mathlib.Core.List.{List, _∷_, map};
+ghost use Prim.Native.Nat.{ℕ};
 ghost use Rattle.kinds.specs.Kinds.{Item, Sides, kinds as kindList, inClass, S, sideFits, takes};
 ghost use Rattle.kinds.specs.Words.{kindOf};
-ghost use Rattle.kinds.specs.Numbers.{numbers, sidesNumber, itemsNumber, sideBelow, ofFirst, takesFirst, repeatsFirst, restFirst, afterFirst, keyOf};
+ghost use Rattle.kinds.specs.Numbers.{numbers, sidesNumber, itemsNumber, sideBelow, ofFirst, takesFirst, repeatsFirst, restFirst, afterFirst, letters, key, twelveFrom, KeyTold, KindTold};
 
 // What the table holds of a kind: how many side numbers it has, 0 for as many as there are names, and its children, four
 // hex digits an item with the first item lowest (specs/Numbers).
@@ -17,6 +18,19 @@ pub struct Kind {
 pub enum Found {
     Is(u32),
     Unknown,
+}
+
+// The kind whose word the small letters from a place on are, and the place after them; at most twelve are read, more than
+// any word has.
+pub struct KindAt {
+    pub kind: Found,
+    pub stop: usize,
+}
+
+// The key of such letters, and the place after them.
+struct KeyRead {
+    value: u64,
+    stop: usize,
 }
 
 const KINDS: [Kind; 66] = [
@@ -437,34 +451,56 @@ fn wide(b: u8) -> u64
     b as u64
 }
 
-// Five bits a letter, the first letter lowest; 0 where the bytes are no word of at most eleven small letters.
-fn key_of(word: &[u8]) -> u64
-    ensures { λ r. ⌜ r ≡ keyOf (now (word .entry)) ⌝ }
+// The place twelve bytes on, or the end where that comes first.
+fn twelve_from(size: usize, at: usize) -> usize
+    ensures { λ r. ⌜ r ≡ twelveFrom size at ⌝ }
 {
-    if 11 < word.len() {
-        return 0;
+    if size < at {
+        return size;
     }
-    let mut i = word.len();
-    let mut key: u64 = 0;
-    while 0 < i {
-        i -= 1;
-        let b = wide(word[i]);
-        if b < 97 {
-            return 0;
-        }
-        if 122 < b {
-            return 0;
-        }
-        key = key * 32 + (b - 96);
+    if size - at < 12 {
+        return size;
     }
-    key
+    at + 12
 }
 
-// The kind of a word: the key tells the words apart, so no word is compared.
-pub fn find_kind(word: &[u8]) -> Found
-    ensures { λ r. ⌜ r ≡ kindOf (now (word .entry)) ⌝ }
+// The key of the small letters from a place on: five bits a letter, the first letter lowest, so twelve letters fit.
+fn key_at(s: &[u8], at: usize) -> KeyRead
+    ensures { λ r. ⌜ KeyTold (now (s .entry)) at (r .value) (r .stop) ⌝ }
 {
-    match key_of(word) {
+    let end = twelve_from(s.len(), at);
+    let mut i = at;
+    let mut value: u64 = 0;
+    let mut scale: u64 = 1;
+    while i < end {
+        let b = wide(s[i]);
+        if b < 97 {
+            return KeyRead {
+                value: value,
+                stop: i,
+            };
+        }
+        if 122 < b {
+            return KeyRead {
+                value: value,
+                stop: i,
+            };
+        }
+        value += (b - 96) * scale;
+        scale *= 32;
+        i += 1;
+    }
+    KeyRead {
+        value: value,
+        stop: i,
+    }
+}
+
+// The kind of the word of small letters that has this key: keys tell such words apart, so no word is compared.
+fn kind_of_key(value: u64) -> Found
+    ensures { λ r. ⌜ ((w : List ℕ) → letters w ≡ true → value ≡ key w → r ≡ kindOf w) ⌝ }
+{
+    match value {
         178670 => Found::Is(0), // none
         282672 => Found::Is(1), // path
         7347 => Found::Is(2), // seg
@@ -533,4 +569,26 @@ pub fn find_kind(word: &[u8]) -> Found
         620316844 => Found::Is(65), // lerror
         _ => Found::Unknown,
     }
+}
+
+// The kind whose word the small letters from a place on are.
+pub fn find_kind_at(s: &[u8], at: usize) -> KindAt
+    ensures { λ r. ⌜ KindTold (now (s .entry)) at (r .kind) (r .stop) ⌝ }
+{
+    let read = key_at(s, at);
+    KindAt {
+        kind: kind_of_key(read.value),
+        stop: read.stop,
+    }
+}
+
+// The kind of a word.
+pub fn find_kind(word: &[u8]) -> Found
+    ensures { λ r. ⌜ r ≡ kindOf (now (word .entry)) ⌝ }
+{
+    let read = find_kind_at(word, 0);
+    if read.stop != word.len() {
+        return Found::Unknown;
+    }
+    read.kind
 }

@@ -1,20 +1,17 @@
 -- A line with a row, field by field.
-use Prim.Native.Nat.{ℕ, _-_, _≤_, _<_}
+use Prim.Native.Nat.{ℕ, _≤_, _<_}
 use mathlib.Core.Path.{_≡_, sym, ap, _∙_}
 use mathlib.Core.Bool.{cond}
 use mathlib.Core.List.{List}
 use native.Mathlib.Omega.{arith}
-use lib.ListN.{length, take, drop}
 use borrow.Author.Tests.{le-leb, lt-leb}
 use Rattle.kinds.specs.Kinds.{bytes}
-use Rattle.kinds.specs.Words.{kindOf}
 use Rattle.kinds.specs.declared.Found.{Found}
 use Rattle.kinds.specs.declared.Found.the-variants.{Is, Unknown}
-use Rattle.text.specs.Fields.{field, stopAt, afterByte, endsBy, after, afterKey}
+use Rattle.text.specs.Fields.{field, endsBy, after, afterKey}
 use Rattle.text.specs.Numbers.{bounded, numberOf}
 use Rattle.text.specs.Runs.{nextField, fieldNumber}
-use Rattle.text.proofs.Stops.{byte-stands, byte-missing, byte-within, stop-from}
-use Rattle.text.proofs.FieldLaws.{key-stands, key-after, key-missing, next-ends, next-after, next-none, next-number, field-part}
+use Rattle.text.proofs.FieldLaws.{key-stands, key-after, key-missing, next-ends, next-after, next-none, next-number}
 use Rattle.lines.specs.declared.Fault.the-variants.{WrongLine, WrongNumber, UnknownKind}
 use Rattle.lines.specs.declared.RowLine.{RowLine}
 use Rattle.lines.specs.declared.RowLine.the-variants.{Read, Wrong}
@@ -23,23 +20,6 @@ use Rattle.lines.specs.declared.Split.{Split}
 use Rattle.lines.specs.declared.Split.the-variants.{Five, Uneven}
 use Rattle.lines.specs.Lines.{fiveFields, rowOf, rowFrom, rowFields, rowLine}
 use Rattle.lines.specs.Parts.{KindRead, partsRow, splitRow}
-
--- the field of a row's word
-module _ (s : List ℕ) (at stop : ℕ) (i : stop ≡ stopAt 32 s at) (next : ℕ) (q : next ≡ afterByte 32 s stop) where
-  pub word-none : next ≡ 0 → KindRead s at Unknown 0
-  unfolding endsBy nextField
-  word-none z = record { word = rw (← i, byte-missing 32 s stop next q z); past = sym z ∙ q ∙ rw i }
-
-  module _ (n : next ≡ 0 → ⊥) where
-    pub word-from : at ≤ stop
-    word-from = stop-from 32 s at stop i
-
-    pub word-within : stop ≤ length s
-    word-within = byte-within 32 s stop next q n
-
-    pub word-told : (k : Found) → k ≡ kindOf (take (stop - at) (drop at s)) → KindRead s at k next
-    unfolding endsBy nextField
-    word-told k e = record { word = e ∙ rw (field-part 32 s at stop i, ← i, byte-stands 32 s stop next q n); past = q ∙ rw i }
 
 -- the places of five fields, each where the one before it ends
 module _ (s : List ℕ) (a : ℕ) (k : Found) (b : ℕ) (w : KindRead s a k b) where
@@ -136,4 +116,4 @@ module _ (s : List ℕ) (at from : ℕ) (e : from ≡ afterKey (bytes "row=") s 
     unfolding rowLine splitRow
     row-five p u out o = o ∙ ap splitRow (sym u) ∙ q ∙ rw (key-stands (bytes "row=") s at from e n, key-after (bytes "row=") s at from e n)
 
-pub ruleset answers = (word-none, word-from, word-within, word-told, uneven-word, uneven-side, uneven-lo, uneven-hi, uneven-end, five, parts-side, parts-lo, parts-hi, parts-end, parts-unknown, parts-read, row-key, row-uneven, row-five)
+pub ruleset answers = (uneven-word, uneven-side, uneven-lo, uneven-hi, uneven-end, five, parts-side, parts-lo, parts-hi, parts-end, parts-unknown, parts-read, row-key, row-uneven, row-five)

@@ -173,17 +173,21 @@ pub fn name_line(s: &[u8], at: usize, before: &[u8]) -> NameLine
 fn kind_field(s: &[u8], at: usize) -> KindField
     ensures { λ r. ⌜ KindRead (now (s .entry)) at (r .kind) (r .next) ⌝ }
 {
-    let stop = text::stop_at(s, at, b' ');
+    let read = kinds::find_kind_at(s, at);
+    let stop = read.stop;
     let next = text::after_byte(s, stop, b' ');
-    if next == 0 {
+    if next != 0 {
+        let found = read.kind;
         return KindField {
-            kind: Found::Unknown,
-            next: 0,
+            kind: found,
+            next: next,
         };
     }
+    // The field has other bytes after these letters, so that it is no kind's word, or no space ends it.
+    let far = text::stop_at(s, stop, b' ');
     KindField {
-        kind: kinds::find_kind(&s[at..stop]),
-        next: next,
+        kind: Found::Unknown,
+        next: text::after_byte(s, far, b' '),
     }
 }
 

@@ -4,3 +4,4 @@ pub mod Finishing
 pub mod Loading
 pub mod PlaceLaws
 pub mod GoodLoad
+pub mod Sample

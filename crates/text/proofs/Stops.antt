@@ -1,7 +1,7 @@
 -- Where a field stops, byte by byte.
 use Prim.Native.Nat.{ℕ, _+_, _≤_, _<_}
 use mathlib.Core.Path.{_≡_, refl, sym, _∙_}
-use mathlib.Core.Bool.{Bool, true, false, cond, and-false, and-eq-true-iff}
+use mathlib.Core.Bool.{Bool, true, false, cond, and-false}
 use mathlib.Core.List.{List}
 use native.Mathlib.Nat.{add-zero}
 use native.Mathlib.Numerals.{add-one}
@@ -9,7 +9,7 @@ use native.Mathlib.Omega.{arith}
 use lib.Dec.{eqb, ltb}
 use lib.ListN.{length, drop-of-length-le}
 use lib.Seq.{drop-cons}
-use borrow.Author.Tests.{eq-eqb, ne-eqb, lt-ltb, le-ltb, ltb-true}
+use borrow.Author.Tests.{eq-eqb, ne-eqb, lt-ltb, le-ltb}
 use Rattle.text.specs.Fields.{byteAt, isStop, fieldLength, stopAt, stands, afterByte}
 
 pub stop-sep : (sep b : ℕ) → b ≡ sep → true ≡ isStop sep b
@@ -59,15 +59,6 @@ module _ (byte : ℕ) (s : List ℕ) (at r : ℕ) (q : r ≡ afterByte byte s at
       go : (b : Bool) → 0 ≡ cond b (at + 1) 0 → b ≡ false
       go true q = absurd (omega arith)
       go false q = refl
-
-  pub byte-within : (r ≡ 0 → ⊥) → at ≤ length s
-  unfolding stands
-  byte-within n = let h = ltb-true at (length s) (and-eq-true-iff (ltb at (length s)) _ .0 (byte-stands n) .0) in omega arith
-
--- a field does not stop before it starts
-pub stop-from : (sep : ℕ) (s : List ℕ) (at r : ℕ) → r ≡ stopAt sep s at → at ≤ r
-unfolding stopAt
-stop-from sep s at r e = omega arith
 
 -- past the end
 pub stop-past : (sep : ℕ) (s : List ℕ) (i : ℕ) → length s ≤ i → stopAt sep s i ≡ i

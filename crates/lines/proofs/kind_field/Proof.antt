@@ -1,5 +1,5 @@
 use borrow.Author.Needs.{needs}
-use Rattle.lines.proofs.RowLaws.{answers}
+use Rattle.lines.proofs.WordLaws.{answers}
 use Rattle.lines.proofs.kind_field.Statement.{statement}
 use Rattle.lines.proofs.kind_field.Tie as tie
 
@@ -10,8 +10,6 @@ kind-field-spec =
     (λ c κs. search needs)
     (λ c κs. search needs)
     (λ c. search answers)
-    (λ c. search answers)
-    (λ c. search answers)
-    (λ c. search answers)
+    (λ c κs. search needs)
     (λ c κs. search needs)
     (λ c. search answers))
