@@ -1,10 +1,13 @@
 // What the programs that run cases share: their text taken apart, and text and digests put together.
-ghost use Prim.Native.Nat.{_≤_, _<_};
-ghost use lib.ListN.{length};
+ghost use mathlib.Core.Path.{_≡_};
+ghost use Prim.Native.Nat.{_+_, _%_, _≤_, _<_};
+ghost use lib.ListN.{length, getD, take, drop, set};
+ghost use Rattle.case_text.specs.Texts.{firstPlace, smaller, pastPlace, spelled, putPlace, putAll, allPlace, figureOf, fourFigures, hexDigit, hexByte, digestStep, digestOf};
 
 // The place of the first such byte, or the length.
 pub fn find(text: &[u8], byte: u8) -> usize
     ensures { λ r. ⌜ r ≤ length (now (text .entry)) ⌝ }
+    ensures { λ r. ⌜ r ≡ firstPlace byte (now (text .entry)) ⌝ }
 {
     let mut i = 0;
     while i < text.len() {
@@ -16,12 +19,16 @@ pub fn find(text: &[u8], byte: u8) -> usize
     i
 }
 
-pub fn before(text: &[u8], byte: u8) -> &[u8] {
+pub fn before(text: &[u8], byte: u8) -> &[u8]
+    ensures { λ r. ⌜ now r ≡ take (firstPlace byte (now (text .entry))) (now (text .entry)) ⌝ }
+{
     let n = find(text, byte);
     &text[0..n]
 }
 
-pub fn after(text: &[u8], byte: u8) -> &[u8] {
+pub fn after(text: &[u8], byte: u8) -> &[u8]
+    ensures { λ r. ⌜ now r ≡ drop (firstPlace byte (now (text .entry)) + 1) (now (text .entry)) ⌝ }
+{
     let n = find(text, byte);
     if n < text.len() {
         let rest = n + 1;
@@ -30,25 +37,37 @@ pub fn after(text: &[u8], byte: u8) -> &[u8] {
     &text[n..]
 }
 
-pub fn nth(text: &[u8], i: usize) -> u8 {
-    if i < text.len() { text[i] } else { 0 }
+pub fn nth(text: &[u8], i: usize) -> u8
+    ensures { λ r. ⌜ r ≡ getD (now (text .entry)) i 0 ⌝ }
+{
+    if i < text.len() {
+        return text[i];
+    }
+    0
 }
 
 pub fn least(a: usize, b: usize) -> usize
     ensures { λ r. ⌜ r ≤ a ⌝ }
     ensures { λ r. ⌜ r ≤ b ⌝ }
+    ensures { λ r. ⌜ r ≡ smaller a b ⌝ }
 {
-    if a < b { a } else { b }
+    if a <= b {
+        return a;
+    }
+    b
 }
 
 fn digit(b: u8) -> usize
     ensures { λ r. ⌜ r ≤ 15 ⌝ }
+    ensures { λ r. ⌜ r ≡ b % 16 ⌝ }
 {
     (b % 16) as usize
 }
 
 // The number that a text spells; the largest where it spells more, so that a record can hold that one too.
-pub fn decimal(text: &[u8]) -> usize {
+pub fn decimal(text: &[u8]) -> usize
+    ensures { λ r. ⌜ r ≡ spelled 0 (now (text .entry)) ⌝ }
+{
     let mut v: usize = 0;
     let mut i = 0;
     while i < text.len() {
@@ -66,6 +85,7 @@ pub fn past(text: &[u8], at: usize, n: usize) -> usize
     requires { ⌜ at < length (now text) ⌝ }
     ensures { λ r. ⌜ at < r ⌝ }
     ensures { λ r. ⌜ r ≤ length (now (text .entry)) ⌝ }
+    ensures { λ r. ⌜ r ≡ pastPlace (length (now (text .entry))) at n ⌝ }
 {
     if n < text.len() - at {
         return at + n + 1;
@@ -74,7 +94,10 @@ pub fn past(text: &[u8], at: usize, n: usize) -> usize
 }
 
 // A byte past the end is dropped: the place stays.
-pub fn put(out: &mut [u8], at: usize, byte: u8) -> usize {
+pub fn put(out: &mut [u8], at: usize, byte: u8) -> usize
+    ensures { λ r. ⌜ r ≡ putPlace (length (now (out .entry))) at ⌝ }
+    ensures { λ r. ⌜ now (out .exit) ≡ set (now (out .entry)) at byte ⌝ }
+{
     if at < out.len() {
         out[at] = byte;
         return at + 1;
@@ -82,7 +105,10 @@ pub fn put(out: &mut [u8], at: usize, byte: u8) -> usize {
     at
 }
 
-pub fn put_all(out: &mut [u8], from: usize, text: &[u8]) -> usize {
+pub fn put_all(out: &mut [u8], from: usize, text: &[u8]) -> usize
+    ensures { λ r. ⌜ r ≡ allPlace (length (now (out .entry))) from (now (text .entry)) ⌝ }
+    ensures { λ r. ⌜ now (out .exit) ≡ putAll (now (out .entry)) from (now (text .entry)) ⌝ }
+{
     let mut at = from;
     let mut i = 0;
     while i < text.len() {
@@ -92,24 +118,33 @@ pub fn put_all(out: &mut [u8], from: usize, text: &[u8]) -> usize {
     at
 }
 
-fn figure(n: usize) -> u8 {
+fn figure(n: usize) -> u8
+    ensures { λ r. ⌜ r ≡ figureOf n ⌝ }
+{
     48 + (n % 10) as u8
 }
 
-pub fn put_four(out: &mut [u8], from: usize, n: usize) -> usize {
-    let a = put(out, from, figure(n / 1000));
-    let b = put(out, a, figure(n / 100));
-    let c = put(out, b, figure(n / 10));
-    put(out, c, figure(n))
+pub fn put_four(out: &mut [u8], from: usize, n: usize) -> usize
+    ensures { λ r. ⌜ r ≡ allPlace (length (now (out .entry))) from (fourFigures n) ⌝ }
+    ensures { λ r. ⌜ now (out .exit) ≡ putAll (now (out .entry)) from (fourFigures n) ⌝ }
+{
+    let figures = [figure(n / 1000), figure(n / 100), figure(n / 10), figure(n)];
+    put_all(out, from, &figures)
 }
 
 fn hex_digit(b: u8) -> u8
     ensures { λ r. ⌜ r ≤ 15 ⌝ }
+    ensures { λ r. ⌜ r ≡ hexDigit b ⌝ }
 {
-    if 97 <= b { (b - 87) % 16 } else { b % 16 }
+    if 97 <= b {
+        return (b - 87) % 16;
+    }
+    b % 16
 }
 
-pub fn hex_byte(high: u8, low: u8) -> u8 {
+pub fn hex_byte(high: u8, low: u8) -> u8
+    ensures { λ r. ⌜ r ≡ hexByte high low ⌝ }
+{
     hex_digit(high) * 16 + hex_digit(low)
 }
 
@@ -117,11 +152,14 @@ pub fn hex_byte(high: u8, low: u8) -> u8 {
 fn digest_step(d: usize, x: u32) -> usize
     requires { ⌜ d < 4294967296 ⌝ }
     ensures { λ r. ⌜ r < 4294967296 ⌝ }
+    ensures { λ r. ⌜ r ≡ digestStep d x ⌝ }
 {
     (d * 31 + table::wide(x) + 1) % 4294967296
 }
 
-pub fn digest(numbers: &[u32]) -> usize {
+pub fn digest(numbers: &[u32]) -> usize
+    ensures { λ r. ⌜ r ≡ digestOf 0 (now (numbers .entry)) ⌝ }
+{
     let mut d = 0;
     let mut i = 0;
     while i < numbers.len() {

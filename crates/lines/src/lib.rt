@@ -263,7 +263,8 @@ fn row_of(parts: Parts) -> RowLine
     )
 }
 
-// The line `row=` with a kind's word and four numbers.
+// The line `row=` with a kind's word and four numbers. Whether the kind has the side number is left to the caller, who reads
+// many rows and has the table of kinds laid down once.
 pub fn row_line(s: &[u8], at: usize) -> RowLine
     ensures { λ r. ⌜ r ≡ rowLine (now (s .entry)) at ⌝ }
 {

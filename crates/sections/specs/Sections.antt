@@ -74,7 +74,7 @@ ofRow (R.Wrong fault) = wrong fault
 unfoldable pub rowStep : ℕ → List ℕ → List ℕ → ℕ → Line
 rowStep names s text at = ofRow (rowAt names s at)
 
--- "row i stands on line names + 7 + i"
+-- the rows start on line names + 7: six lines and the names stand before them
 abbrev pub rowsFrom : ℕ → ℕ → List ℕ → ℕ → Lines
 rowsFrom names count s at = linesFrom (rowStep names s) count [] at (names + 7)
 

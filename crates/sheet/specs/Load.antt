@@ -114,7 +114,7 @@ tableOf room numbers = numbers ++ replicate (room - length numbers) 0
 unfoldable pub hasRoom : ℕ → ℕ → Record → Bool
 hasRoom rowRoom nameRoom r = leb (5 * r .rows) rowRoom && leb (3 * r .names) nameRoom
 
--- "7 and 8 in row order, 7 before 8; then 9 in row order"; "row i stands on line names + 7 + i, for 7 to 9 too"
+-- "7 and 8 in row order, 7 before 8; then 9 in row order", each at the line of its row
 abbrev pub afterChecks : Checked → Record → Loaded
 afterChecks C.Passed r = Done r
 afterChecks (C.Refused fault row) r = Refused (Rows fault) (lineOf r row)

@@ -1,11 +1,12 @@
 use borrow.Author.Needs.{needs}
-use Prim.Native.Nat.{_-_, _≤_, _<_}
+use Prim.Native.Nat.{_-_}
 use lib.ListN.{length}
+use Rattle.case_text.proofs.Numbers.{Digesting, answers}
 use Rattle.case_text.proofs.digest.Statement.{statement}
 use Rattle.case_text.proofs.digest.Tie as tie
 
 abbrev Inv-loop : tie.InvT-loop
-Inv-loop numbers d₀ i₀ d i = (i ≤ length numbers) × (d < 4294967296)
+Inv-loop numbers d₀ i₀ d i = Digesting numbers i d
 
 abbrev μ-loop : tie.MeasureT-loop
 μ-loop numbers d₀ i₀ d i = length numbers - i
@@ -16,11 +17,11 @@ digest-spec =
     (tie.spec
     Inv-loop
     μ-loop
-    (λ c. search needs)
+    (λ c. search answers)
     (λ c. search needs)
     (λ c. search needs)
     (λ c κs. search needs)
     (λ c. search needs)
     (λ c. search needs)
-    (λ c. search needs)
-    (λ c. search needs))
+    (λ c. search answers)
+    (λ c. search answers))

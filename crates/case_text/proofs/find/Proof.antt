@@ -1,11 +1,12 @@
 use borrow.Author.Needs.{needs}
-use Prim.Native.Nat.{_-_, _≤_}
+use Prim.Native.Nat.{_-_}
 use lib.ListN.{length}
+use Rattle.case_text.proofs.Places.{Seeking, answers}
 use Rattle.case_text.proofs.find.Statement.{statement}
 use Rattle.case_text.proofs.find.Tie as tie
 
 abbrev Inv-loop : tie.InvT-loop
-Inv-loop text byte i₀ i = i ≤ length text
+Inv-loop text byte i₀ i = Seeking byte text i
 
 abbrev μ-loop : tie.MeasureT-loop
 μ-loop text byte i₀ i = length text - i
@@ -16,10 +17,10 @@ find-spec =
     (tie.spec
     Inv-loop
     μ-loop
+    (λ c. search answers)
+    (λ c. search needs)
+    (λ c. (search needs, search answers))
     (λ c. search needs)
     (λ c. search needs)
-    (λ c. search needs)
-    (λ c. search needs)
-    (λ c. search needs)
-    (λ c. search needs)
-    (λ c. search needs))
+    (λ c. search answers)
+    (λ c. (search needs, search answers)))

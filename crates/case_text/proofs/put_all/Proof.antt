@@ -1,12 +1,12 @@
 use borrow.Author.Needs.{needs}
-use Prim.Native.Nat.{_-_, _≤_}
-use mathlib.Core.Path.{_≡_}
+use Prim.Native.Nat.{_-_}
 use lib.ListN.{length}
+use Rattle.case_text.proofs.Puts.{Putting, answers}
 use Rattle.case_text.proofs.put_all.Statement.{statement}
 use Rattle.case_text.proofs.put_all.Tie as tie
 
 abbrev Inv-loop : tie.InvT-loop
-Inv-loop out₀ from text at₀ i₀ out at i = (i ≤ length text) × (length out ≡ length out₀)
+Inv-loop out₀ from text at₀ i₀ out at i = Putting out₀ from text out at i
 
 abbrev μ-loop : tie.MeasureT-loop
 μ-loop out₀ from text at₀ i₀ out at i = length text - i
@@ -17,11 +17,11 @@ put-all-spec =
     (tie.spec
     Inv-loop
     μ-loop
-    (λ c. search needs)
+    (λ c. search answers)
     (λ c. search needs)
     (λ c κs. search needs)
     (λ c. search needs)
     (λ c. search needs)
+    (λ c. search answers)
     (λ c. search needs)
-    (λ c. search needs)
-    (λ c. search needs))
+    (λ c. (search answers, search answers)))

@@ -1,0 +1,16 @@
+use borrow.Author.Needs.{needs}
+use Rattle.case_text.proofs.put_four.Statement.{statement}
+use Rattle.case_text.proofs.put_four.Tie as tie
+
+pub put-four-spec : {M : Type 1} → statement M
+put-four-spec =
+    tie.close
+    (tie.spec
+    (λ c κs. search needs)
+    (λ c κs. search needs)
+    (λ c κs. search needs)
+    (λ c κs. search needs)
+    (λ c. search needs)
+    (λ c κs. search needs)
+    (λ c. search needs)
+    (λ c. ((cc), (cc))))
