@@ -18,17 +18,18 @@ use Rattle.checks.proofs.Passed.{fields-pass, children-passed}
 use Rattle.text.specs.Fields.{field, startsWith, below}
 use Rattle.lines.specs.Lines.{jumpMark}
 use Rattle.sheet_record.specs.declared.Record.{Record}
-use Rattle.sheet_record.specs.Records.{recordFits, offsetAt, sizeAt, markAt, textAt}
+use Rattle.sheet_record.specs.Records.{recordFits, offsetAt, sizeAt, textAt}
 use Rattle.sections.proofs.ReadLaws.{NameEntry, names-length, names-entry, names-ascend, rows-length, rows-kind, rows-side, entry-append, text-append}
 use Rattle.sheet.specs.declared.Refusal.{Refusal}
 use Rattle.sheet.specs.declared.Refusal.the-variants.{TooLong, Line, NoRoom}
 use Rattle.sheet.specs.declared.Loaded.{Loaded}
 use Rattle.sheet.specs.declared.Loaded.the-variants.{Done, Refused}
 use Rattle.sheet.specs.Load.{Parsed, parsed, wrong, linesOf, Result, refuse, tableOf, hasRoom, afterChecks, checkedAnswer, withTables, finishOf, afterParse, loadOf}
+use Rattle.sheet.specs.Meaning.{Asked, LoadMeans}
 use Rattle.sheet.specs.NameText.{namePlace, partAt, textOf}
 use Rattle.sheet.proofs.Reading.{RecordTold, BeforeParts, before-parts}
 use Rattle.sheet.proofs.Finishing.{never}
-use Rattle.sheet.proofs.Loading.{LinesTold, lines-told, record-told}
+use Rattle.sheet.proofs.Loading.{LinesTold, lines-told, record-told, refused-load}
 
 -- the lines, the room and the checks of a good load, and its tables
 pub record GoodLoad (s : List ℕ) (rowRoom nameRoom : ℕ) (r : Record) : Type 0 where
@@ -104,16 +105,6 @@ mark-small name = go (startsWith (bytes "$break$") name || startsWith (bytes "$c
     go : (b : Bool) → cond b 1 0 ≤ 1
     go true = omega arith
     go false = omega arith
-
--- what asking checks: 22, then marks, then fields, ends and depth, children
-pub record Asked (r : Record) (rows names : List ℕ) : Type 0 where
-  pub fits : recordFits r ≡ true
-  pub rows-held : 5 * r .rows ≤ length rows
-  pub names-held : 3 * r .names ≤ length names
-  pub marks : (i : ℕ) → i < r .names → markAt names i ≤ 1
-  pub fields : fieldsOf rows (r .rows) (r .names) ≡ C.Passed
-  pub ends : endsOf rows (r .rows) ≡ C.Passed
-  pub children : childrenOf rows (r .rows) ≡ C.Passed
 
 record-right : (r : Record) → RecordTold r → recordFits r ≡ true
 unfolding recordFits
@@ -240,3 +231,19 @@ module _ (s : List ℕ) (rowRoom nameRoom : ℕ) (r : Record) (e : loadOf s rowR
     where
       same-rows : parsed r (good .nameNumbers) (good .rowNumbers) ≡ parsed r names rows → good .rowNumbers ≡ rows
       same-rows p = cc
+
+-- what a load's answer and tables mean
+pub load-means : (s : List ℕ) (rowRoom nameRoom : ℕ) (a : Loaded) (rows names : List ℕ) → a ≡ loadOf s rowRoom nameRoom .answer → rows ≡ loadOf s rowRoom nameRoom .rows → names ≡ loadOf s rowRoom nameRoom .names → LoadMeans a rows names
+unfolding refuse
+load-means s rowRoom nameRoom a rows names p q t =
+    record {
+      zero-rows = λ refusal line e. zeros rowRoom rows (q ∙ ap (λ (x : Result). x .rows) (whole refusal line e));
+      zero-names = λ refusal line e. zeros nameRoom names (t ∙ ap (λ (x : Result). x .names) (whole refusal line e));
+      good = λ r e. rw (q, t) (load-asked s rowRoom nameRoom r (sym p ∙ e));
+    }
+  where
+    whole : (refusal : Refusal) (line : ℕ) → a ≡ Refused refusal line → loadOf s rowRoom nameRoom ≡ refuse rowRoom nameRoom refusal line
+    whole refusal line e = refused-load rowRoom nameRoom refusal line s (sym p ∙ e)
+
+    zeros : (n : ℕ) (l : List ℕ) → l ≡ replicate n 0 → l ≡ replicate (length l) 0
+    zeros n l e = let k : length l ≡ n = ap length e ∙ length-replicate {A = ℕ} n 0 in e ∙ ap (λ (m : ℕ). replicate m 0) (sym k)

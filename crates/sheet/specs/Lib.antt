@@ -1,3 +1,4 @@
 pub mod Load
 pub mod Steps
 pub mod NameText
+pub mod Meaning

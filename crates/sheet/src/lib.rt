@@ -12,6 +12,7 @@ ghost use lib.ListN.{length, take, replicate};
 ghost use Rattle.sections.specs.Sections.{Short};
 ghost use Rattle.sheet.specs.Load.{refusalNumber, refusalOf, placeOf, recordOf, beforeRows, lineOf, linesOf, checkedAnswer, loadOf};
 ghost use Rattle.sheet.specs.Steps.{factsOf, answerOf, NamesFilled, BothFilled, Room, GoodFilled, finishFronts, isRefused};
+ghost use Rattle.sheet.specs.Meaning.{LoadMeans};
 ghost use Rattle.sheet.specs.NameText.{namePlace, partAt, textOf};
 
 // Why a load or a name is refused.
@@ -212,8 +213,8 @@ fn is_refused(loaded: Loaded) -> bool
     }
 }
 
-// Loads a sheet. A refusal leaves zeros in both tables, and so does a good load after the part that it fills.
-pub fn load(sheet: &[u8], rows: &mut [u32], names: &mut [u32]) -> Loaded
+// The whole of loading.
+fn load_tables(sheet: &[u8], rows: &mut [u32], names: &mut [u32]) -> Loaded
     ensures { λ r. ⌜ r ≡ loadOf (now (sheet .entry)) (length (now (rows .entry))) (length (now (names .entry))) .answer ⌝ }
     ensures row_table { λ r. ⌜ now (rows .exit) ≡ loadOf (now (sheet .entry)) (length (now (rows .entry))) (length (now (names .entry))) .rows ⌝ }
     ensures name_table { λ r. ⌜ now (names .exit) ≡ loadOf (now (sheet .entry)) (length (now (rows .entry))) (length (now (names .entry))) .names ⌝ }
@@ -225,6 +226,16 @@ pub fn load(sheet: &[u8], rows: &mut [u32], names: &mut [u32]) -> Loaded
         return loaded;
     }
     loaded
+}
+
+// Loads a sheet. A refusal leaves zeros in both tables, and so does a good load after the part that it fills.
+pub fn load(sheet: &[u8], rows: &mut [u32], names: &mut [u32]) -> Loaded
+    ensures { λ r. ⌜ r ≡ loadOf (now (sheet .entry)) (length (now (rows .entry))) (length (now (names .entry))) .answer ⌝ }
+    ensures row_table { λ r. ⌜ now (rows .exit) ≡ loadOf (now (sheet .entry)) (length (now (rows .entry))) (length (now (names .entry))) .rows ⌝ }
+    ensures name_table { λ r. ⌜ now (names .exit) ≡ loadOf (now (sheet .entry)) (length (now (rows .entry))) (length (now (names .entry))) .names ⌝ }
+    ensures means { λ r. ⌜ LoadMeans r (now (rows .exit)) (now (names .exit)) ⌝ }
+{
+    load_tables(sheet, rows, names)
 }
 
 // Where a name stands in the sheet, as offset and length, or the refusal.

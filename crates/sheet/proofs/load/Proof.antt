@@ -1,5 +1,5 @@
 use borrow.Author.Needs.{needs}
-use Rattle.sheet.proofs.Loading.{answers}
+use Rattle.sheet.proofs.GoodLoad.{load-means}
 use Rattle.sheet.proofs.load.Statement.{statement}
 use Rattle.sheet.proofs.load.Tie as tie
 
@@ -8,12 +8,6 @@ load-spec =
     tie.close
     (tie.spec
     (λ c κs. search needs)
-    (λ c κs. search needs)
-    (λ c κs. search needs)
-    (λ c κs. search needs)
     (λ c. search needs)
     (λ c. search needs)
-    (λ c. search answers)
-    (λ c. search needs)
-    (λ c. search needs)
-    (λ c. search answers))
+    (λ c. (search needs, (search needs, (search needs, search load-means)))))
