@@ -8,3 +8,4 @@ pub mod ChildLaws
 pub mod Passed
 pub mod Listing
 pub mod Places
+pub mod Same

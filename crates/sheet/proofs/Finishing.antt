@@ -27,7 +27,7 @@ pub refused-filled : (refusal : Refusal) (line : ℕ) (result : Result) (rows na
 refused-filled refusal line result rows names = record { row-table = λ r e. never e; name-table = λ r e. never e }
 
 -- the answer stays as it is, whatever the tables are
-answered : (rowRoom nameRoom : ℕ) (a : Loaded) (rows names : List ℕ) → withTables rowRoom nameRoom a rows names .answer ≡ a
+pub answered : (rowRoom nameRoom : ℕ) (a : Loaded) (rows names : List ℕ) → withTables rowRoom nameRoom a rows names .answer ≡ a
 unfolding refuse
 answered rowRoom nameRoom (Done r) rows names = refl
 answered rowRoom nameRoom (Refused refusal line) rows names = refl

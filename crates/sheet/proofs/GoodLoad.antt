@@ -13,6 +13,7 @@ use Rattle.table.proofs.Same.{tree-front}
 use Rattle.checks.specs.declared.Checked.{Checked}
 use Rattle.checks.specs.declared.Checked.the-variants as C
 use Rattle.checks.specs.Checks.{fieldsOf, endsOf, childrenOf}
+use Rattle.checks.proofs.Same.{children-same}
 use Rattle.checks.proofs.Rows.{both-pass}
 use Rattle.checks.proofs.Passed.{fields-pass, children-passed}
 use Rattle.text.specs.Fields.{field, startsWith, below}
@@ -28,7 +29,7 @@ use Rattle.sheet.specs.Load.{Parsed, parsed, wrong, linesOf, Result, ref
 use Rattle.sheet.specs.Meaning.{Asked, LoadMeans}
 use Rattle.sheet.specs.NameText.{namePlace, partAt, textOf}
 use Rattle.sheet.proofs.Reading.{RecordTold, BeforeParts, before-parts}
-use Rattle.sheet.proofs.Finishing.{never}
+use Rattle.sheet.proofs.Finishing.{never, answered}
 use Rattle.sheet.proofs.Loading.{LinesTold, lines-told, record-told, refused-load}
 
 -- the lines, the room and the checks of a good load, and its tables
@@ -231,6 +232,36 @@ module _ (s : List ℕ) (rowRoom nameRoom : ℕ) (r : Record) (e : loadOf s rowR
     where
       same-rows : parsed r (good .nameNumbers) (good .rowNumbers) ≡ parsed r names rows → good .rowNumbers ≡ rows
       same-rows p = cc
+
+-- the answer for good lines is the same in all tables that have room for them
+module _ (s : List ℕ) (r : Record) (names rows : List ℕ) (l : linesOf s ≡ parsed r names rows) where
+  lines : LinesTold s r names rows
+  lines = lines-told s r names rows l
+
+  count : length rows ≡ 5 * r .rows
+  count = rows-length (r .names) s (r .rows) [] (lines .rows-at) (r .names + 7) rows (lines .end) (lines .last)
+
+  answer-with : (rowRoom nameRoom : ℕ) → length s ≤ 65536 → hasRoom rowRoom nameRoom r ≡ true → loadOf s rowRoom nameRoom .answer ≡ checkedAnswer r (tableOf rowRoom rows)
+  unfolding loadOf finishOf
+  answer-with rowRoom nameRoom h q = rw (le-leb (length s) 65536 h, l, q) (answered rowRoom nameRoom (checkedAnswer r (tableOf rowRoom rows)) (tableOf rowRoom rows) (tableOf nameRoom names))
+
+  for-rows : (rowRoom nameRoom : ℕ) → hasRoom rowRoom nameRoom r ≡ true → 5 * r .rows ≤ rowRoom
+  unfolding hasRoom
+  for-rows rowRoom nameRoom q = leb-true (5 * r .rows) rowRoom (and-eq-true-iff (leb (5 * r .rows) rowRoom) _ .0 q .0)
+
+  same-checks : (rowRoom otherRoom : ℕ) → 5 * r .rows ≤ rowRoom → 5 * r .rows ≤ otherRoom → childrenOf (tableOf rowRoom rows) (r .rows) ≡ childrenOf (tableOf otherRoom rows) (r .rows)
+  same-checks rowRoom otherRoom a b =
+      children-same (tableOf rowRoom rows) (tableOf otherRoom rows) (r .rows)
+      (omega (arith, count, table-length rowRoom rows (omega (arith, count))))
+      (omega (arith, count, table-length otherRoom rows (omega (arith, count))))
+      (λ i h. table-front rowRoom rows i (omega (arith, count)) ∙ sym (table-front otherRoom rows i (omega (arith, count))))
+
+  pub load-room : (rowRoom nameRoom otherRows otherNames : ℕ) → length s ≤ 65536 → hasRoom rowRoom nameRoom r ≡ true → hasRoom otherRows otherNames r ≡ true → loadOf s rowRoom nameRoom .answer ≡ loadOf s otherRows otherNames .answer
+  unfolding checkedAnswer
+  load-room rowRoom nameRoom otherRows otherNames h p q =
+      answer-with rowRoom nameRoom h p
+      ∙ ap (λ (c : Checked). afterChecks c r) (same-checks rowRoom otherRows (for-rows rowRoom nameRoom p) (for-rows otherRows otherNames q))
+      ∙ sym (answer-with otherRows otherNames h q)
 
 -- what a load's answer and tables mean
 pub load-means : (s : List ℕ) (rowRoom nameRoom : ℕ) (a : Loaded) (rows names : List ℕ) → a ≡ loadOf s rowRoom nameRoom .answer → rows ≡ loadOf s rowRoom nameRoom .rows → names ≡ loadOf s rowRoom nameRoom .names → LoadMeans a rows names
