@@ -13,9 +13,8 @@ use Rattle.kinds.specs.Words.{kindOf}
 use Rattle.kinds.specs.declared.Found.{Found}
 use Rattle.kinds.specs.declared.Found.the-variants.{Is, Unknown}
 use Rattle.kinds.proofs.Words.{found-below}
-use Rattle.text.specs.Fields.{fieldLength, fieldOf, field, stopAt, stands, endsBy, after, startsWith, below}
+use Rattle.text.specs.Fields.{fieldLength, fieldOf, field, stopAt, stands, endsBy, after, startsWith, below, allGraphic}
 use Rattle.text.specs.Numbers.{Spelled, is, none, numberOf}
-use Rattle.text.specs.Runs.{allGraphic}
 use Rattle.lines.specs.declared.Fault.{Fault}
 use Rattle.lines.specs.declared.Fault.the-variants.{WrongLine, WrongName, WrongSide}
 use Rattle.lines.specs.declared.Name.{Name}

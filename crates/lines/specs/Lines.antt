@@ -9,9 +9,8 @@ use Rattle.kinds.specs.Kinds.{bytes, entry, sideFits}
 use Rattle.kinds.specs.Words.{kindOf}
 use Rattle.kinds.specs.declared.Found.{Found}
 use Rattle.kinds.specs.declared.Found.the-variants.{Is, Unknown}
-use Rattle.text.specs.Fields.{field, endsBy, after, startsWith, below}
+use Rattle.text.specs.Fields.{field, endsBy, after, startsWith, below, allGraphic}
 use Rattle.text.specs.Numbers.{Spelled, is, none, numberOf}
-use Rattle.text.specs.Runs.{allGraphic}
 use Rattle.lines.specs.declared.Fault.{Fault}
 use Rattle.lines.specs.declared.Fault.the-variants.{WrongLine, WrongNumber, OutOfRange, WrongName, UnknownKind, WrongSide}
 use Rattle.lines.specs.declared.NumberLine.{NumberLine}

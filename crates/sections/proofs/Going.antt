@@ -6,7 +6,8 @@ use native.Mathlib.Nat.{mul-suc, mul-zero}
 use native.Mathlib.Omega.{arith}
 use lib.ListN.{length, take}
 use Rattle.lines.specs.declared.Fault.{Fault}
-use Rattle.sections.specs.Sections.{Line, holds, wrong, Lines, read, refused, prepend, linesFrom, Filled, put}
+use Rattle.sections.specs.Sections.{Line, holds, wrong, Lines, read, refused, prepend, linesFrom}
+use Rattle.sections.specs.Filling.{Filled, put}
 use Rattle.sections.proofs.Puts.{put-front, put-length}
 
 prepend-nil : (l : Lines) → prepend [] l ≡ l

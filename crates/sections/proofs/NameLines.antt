@@ -12,7 +12,8 @@ use Rattle.lines.specs.declared.NameLine.the-variants as M
 use Rattle.lines.specs.Lines.{nameLine}
 use Rattle.lines.proofs.Told.{name-told, name-within}
 use Rattle.sections.specs.declared.Section.the-variants.{Read, Refused}
-use Rattle.sections.specs.Sections.{wrong, nameStep, nameNumbers, nameText, namesFrom, sectionOf, Filled, put, Short}
+use Rattle.sections.specs.Sections.{wrong, nameStep, nameNumbers, nameText, namesFrom}
+use Rattle.sections.specs.Filling.{sectionOf, Filled, put, Short}
 use Rattle.sections.proofs.Puts.{put-length}
 use Rattle.sections.proofs.Going.{Going, going-start, going-done, going-filled, going-wrong, wrong-filled, going-next}
 

@@ -10,7 +10,8 @@ use lib.Seq.{sets, sets-eq, length-sets, take-at, length-take-le}
 use borrow.Author.Tests.{le-leb, lt-leb}
 use Rattle.lines.specs.declared.Name.{Name}
 use Rattle.lines.specs.declared.Row.{Row}
-use Rattle.sections.specs.Sections.{put, nameNumbers, rowNumbers}
+use Rattle.sections.specs.Sections.{nameNumbers, rowNumbers}
+use Rattle.sections.specs.Filling.{put}
 
 -- a table without room stays as it is
 pub put-none : (t : List ℕ) (w : ℕ) (numbers : List ℕ) → length t < w + length numbers → t ≡ put t w numbers

@@ -10,8 +10,7 @@ use lib.ListN.{length, drop, getD, length-append, List·getD-append}
 use lib.Seq.{getD-append-add}
 use Rattle.kinds.specs.Kinds.{bytes, entry, sideFits}
 use Rattle.table.specs.Rows.{kindAt, sideAt}
-use Rattle.text.specs.Fields.{field, endsBy, startsWith, below}
-use Rattle.text.specs.Runs.{allGraphic}
+use Rattle.text.specs.Fields.{field, endsBy, startsWith, below, allGraphic}
 use Rattle.lines.specs.declared.Name.{Name}
 use Rattle.lines.specs.declared.NameLine.{NameLine}
 use Rattle.lines.specs.declared.NameLine.the-variants as M

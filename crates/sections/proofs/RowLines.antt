@@ -18,7 +18,8 @@ use Rattle.lines.specs.declared.RowLine.the-variants as R
 use Rattle.lines.specs.Lines.{rowLine, rowAt}
 use Rattle.lines.proofs.Told.{row-known}
 use Rattle.sections.specs.declared.Section.the-variants.{Read, Refused}
-use Rattle.sections.specs.Sections.{wrong, rowStep, rowNumbers, rowsFrom, sectionOf, Filled, put}
+use Rattle.sections.specs.Sections.{wrong, rowStep, rowNumbers, rowsFrom}
+use Rattle.sections.specs.Filling.{sectionOf, Filled, put}
 use Rattle.sections.proofs.Puts.{put-length}
 use Rattle.sections.proofs.Going.{Going, going-start, going-done, going-filled, going-wrong, wrong-filled, going-next}
 

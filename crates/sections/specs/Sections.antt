@@ -1,12 +1,8 @@
 -- The lines of names and of rows: document 01, "names=, that many name=, .. rows=, that many row=", with "1 to 6, first line
 -- first". By place and count: a line is read where the one before it ended. Definitions only.
-use Prim.Native.Nat.{ℕ, zero, suc, _+_, _*_, _≤_}
-use mathlib.Core.Path.{_≡_}
-use mathlib.Core.Bool.{cond}
+use Prim.Native.Nat.{ℕ, zero, suc, _+_}
 use mathlib.Core.List.{List, [], _∷_, _++_}
-use lib.Dec.{leb}
 use lib.ListN.{length, take, drop}
-use lib.Seq.{sets}
 use Rattle.lines.specs.declared.Fault.{Fault}
 use Rattle.lines.specs.declared.Name.{Name}
 use Rattle.lines.specs.declared.NameLine.{NameLine}
@@ -15,8 +11,7 @@ use Rattle.lines.specs.declared.Row.{Row}
 use Rattle.lines.specs.declared.RowLine.{RowLine}
 use Rattle.lines.specs.declared.RowLine.the-variants as R
 use Rattle.lines.specs.Lines.{nameLine, rowAt}
-use Rattle.sections.specs.declared.Section.{Section}
-use Rattle.sections.specs.declared.Section.the-variants.{Read, Refused}
+use Rattle.sections.specs.declared.Section.the-variants.{Read}
 
 -- what is told of a line: the numbers that it puts into a table, the text that the next line is held against, and where that
 -- starts; or what is wrong
@@ -77,21 +72,3 @@ rowStep names s text at = ofRow (rowAt names s at)
 -- the rows start on line names + 7: six lines and the names stand before them
 abbrev pub rowsFrom : ℕ → ℕ → List ℕ → ℕ → Lines
 rowsFrom names count s at = linesFrom (rowStep names s) count [] at (names + 7)
-
--- what the code answers of lines: all but their numbers
-abbrev pub sectionOf : Lines → Section
-sectionOf (read numbers next) = Read next
-sectionOf (refused fault line) = Refused fault line
-
--- what a section leaves in its table, which had room for it: its numbers in front. If it is refused, or has no room, the
--- caller clears the table, and nothing is said of it.
-pub record Filled (width count : ℕ) (lines : Lines) (table : List ℕ) : Type 0 where
-  pub front : width * count ≤ length table → (numbers : List ℕ) (next : ℕ) → lines ≡ read numbers next → take (width * count) table ≡ numbers
-
--- numbers written from place w on, if the table has room for them
-unfoldable pub put : List ℕ → ℕ → List ℕ → List ℕ
-put table w numbers = cond (leb (w + length numbers) (length table)) (sets table w numbers) table
-
--- a sheet that is not too long: its places fit the name table
-pub record Short (s : List ℕ) : Type 0 where
-  pub bytes : length s ≤ 65536

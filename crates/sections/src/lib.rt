@@ -8,7 +8,8 @@ use lines::RowLine;
 ghost use mathlib.Core.Path.{_≡_};
 ghost use Prim.Native.Nat.{_+_, _≤_};
 ghost use lib.ListN.{length};
-ghost use Rattle.sections.specs.Sections.{nameNumbers, rowNumbers, namesFrom, rowsFrom, sectionOf, Filled, put, Short};
+ghost use Rattle.sections.specs.Sections.{nameNumbers, rowNumbers, namesFrom, rowsFrom};
+ghost use Rattle.sections.specs.Filling.{sectionOf, Filled, put, Short};
 
 // Where the lines after the section start, or the first refusal and its line.
 pub enum Section {

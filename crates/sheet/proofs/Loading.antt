@@ -8,7 +8,8 @@ use lib.Dec.{leb, ltb}
 use lib.ListN.{length, take, replicate}
 use borrow.Author.Tests.{le-leb, lt-leb, leb-true, ltb-false}
 use Rattle.lines.specs.declared.Fault.the-variants.{WrongLine}
-use Rattle.sections.specs.Sections.{Lines, read, refused, rowsFrom, Short}
+use Rattle.sections.specs.Sections.{Lines, read, refused, rowsFrom}
+use Rattle.sections.specs.Filling.{Short}
 use Rattle.sheet_record.specs.declared.Record.{Record}
 use Rattle.sheet.specs.declared.Refusal.{Refusal}
 use Rattle.sheet.specs.declared.Refusal.the-variants.{TooLong, Line, NoRoom}

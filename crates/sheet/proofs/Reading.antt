@@ -10,7 +10,8 @@ use Rattle.lines.specs.declared.Fault.the-variants.{WrongLine}
 use Rattle.lines.proofs.InRange.{Ranged}
 use Rattle.sections.specs.declared.Section.{Section}
 use Rattle.sections.specs.declared.Section.the-variants as S
-use Rattle.sections.specs.Sections.{Lines, read, refused, namesFrom, rowsFrom, sectionOf, Filled}
+use Rattle.sections.specs.Sections.{Lines, read, refused, namesFrom, rowsFrom}
+use Rattle.sections.specs.Filling.{sectionOf, Filled}
 use Rattle.sheet_record.specs.declared.Record.{Record}
 use Rattle.sheet.specs.declared.Refusal.the-variants.{Line}
 use Rattle.sheet.specs.declared.Loaded.the-variants.{Done, Refused}

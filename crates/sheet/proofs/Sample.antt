@@ -9,9 +9,8 @@ use Rattle.table.specs.Fold.{fold}
 use Rattle.kinds.specs.Kinds.{bytes, kinds, entry, isKind, inClass, ofClass, classNumber, sideFits, takes, once, many, fits}
 use Rattle.kinds.specs.Words.{same, placeFrom, kindOf}
 use Rattle.checks.specs.Checks.{holds, whenHeld, firstFrom, endsBefore, above, enclosing, endFits, depthAt, endsAt, kindAlone, childrenAt, rootAt}
-use Rattle.text.specs.Fields.{isStop, fieldLength, fieldOf, stopAt, stands, endsBy, after, startsWith, below}
+use Rattle.text.specs.Fields.{isStop, fieldLength, fieldOf, stopAt, stands, endsBy, after, startsWith, below, isGraphic, allGraphic}
 use Rattle.text.specs.Numbers.{isDigit, allDigits, isEmpty, zeroFirst, decimal, bounded, numberOf}
-use Rattle.text.specs.Runs.{isGraphic, allGraphic}
 use Rattle.lines.specs.Lines.{keyed, numberLine, jumpMark, nameOf, nameLine, fiveFields, rowOf, rowFrom, rowFields, rowLine, rowAt}
 use Rattle.sections.specs.Sections.{linesFrom, nameStep, rowStep}
 use Rattle.header.specs.Header.{headOf, lastFacts, factsFrom}

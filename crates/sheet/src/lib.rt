@@ -9,7 +9,7 @@ ghost use mathlib.Core.Path.{_≡_};
 ghost use mathlib.Core.List.{_++_};
 ghost use Prim.Native.Nat.{_+_, _-_, _*_, _≤_, _<_};
 ghost use lib.ListN.{length, take, replicate};
-ghost use Rattle.sections.specs.Sections.{Short};
+ghost use Rattle.sections.specs.Filling.{Short};
 ghost use Rattle.sheet.specs.Load.{refusalNumber, refusalOf, placeOf, recordOf, beforeRows, lineOf, linesOf, checkedAnswer, loadOf};
 ghost use Rattle.sheet.specs.Steps.{factsOf, answerOf, NamesFilled, BothFilled, Room, GoodFilled, finishFronts, isRefused};
 ghost use Rattle.sheet.specs.Meaning.{LoadMeans};

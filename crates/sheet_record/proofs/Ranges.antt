@@ -1,46 +1,44 @@
 -- The ranges of a record's numbers, test by test.
 use Prim.Native.Nat.{_≤_, _<_}
 use mathlib.Core.Path.{_≡_, sym, _∙_}
-use mathlib.Core.Bool.{Bool, false, not, and-eq-true-iff}
+use mathlib.Core.Bool.{Bool, false, not, and-eq-true-iff, and-false}
 use lib.Dec.{leb}
 use borrow.Author.Tests.{le-leb, lt-leb, leb-true, lt-ltb, le-ltb, not-false}
 use Rattle.sheet_record.specs.declared.Record.{Record}
 use Rattle.sheet_record.specs.Records.{recordFits}
 
--- the record's numbers, one after the other
+-- a number out of its range, whatever the others are
 module _ (r : Record) where
   pub no-names : r .names < 1 → false ≡ recordFits r
   unfolding recordFits
   no-names h = rw (lt-leb 1 (r .names) h)
 
-  module _ (a : 1 ≤ r .names) where
-    pub many-names : 500 < r .names → false ≡ recordFits r
-    unfolding recordFits
-    many-names h = rw (le-leb 1 (r .names) a, lt-leb (r .names) 500 h)
+  pub many-names : 500 < r .names → false ≡ recordFits r
+  unfolding recordFits
+  many-names h = rw (lt-leb (r .names) 500 h, and-false)
 
-    module _ (b : r .names ≤ 500) where
-      pub no-rows : r .rows < 1 → false ≡ recordFits r
-      unfolding recordFits
-      no-rows h = rw (le-leb 1 (r .names) a, le-leb (r .names) 500 b, lt-leb 1 (r .rows) h)
+  pub no-rows : r .rows < 1 → false ≡ recordFits r
+  unfolding recordFits
+  no-rows h = rw (lt-leb 1 (r .rows) h, and-false, and-false)
 
-      module _ (c : 1 ≤ r .rows) where
-        pub many-rows : 2000 < r .rows → false ≡ recordFits r
-        unfolding recordFits
-        many-rows h = rw (le-leb 1 (r .names) a, le-leb (r .names) 500 b, le-leb 1 (r .rows) c, lt-leb (r .rows) 2000 h)
+  pub many-rows : 2000 < r .rows → false ≡ recordFits r
+  unfolding recordFits
+  many-rows h = rw (lt-leb (r .rows) 2000 h, and-false, and-false, and-false)
 
-        module _ (d : r .rows ≤ 2000) where
-          pub no-local : r .names ≤ r .local → false ≡ recordFits r
-          unfolding recordFits
-          no-local h = rw (le-leb 1 (r .names) a, le-leb (r .names) 500 b, le-leb 1 (r .rows) c, le-leb (r .rows) 2000 d, le-ltb (r .local) (r .names) h)
+  pub no-local : r .names ≤ r .local → false ≡ recordFits r
+  unfolding recordFits
+  no-local h = rw (le-ltb (r .local) (r .names) h, and-false, and-false, and-false, and-false)
 
-          module _ (e : r .local < r .names) where
-            pub no-start : 1 < r .start → false ≡ recordFits r
-            unfolding recordFits
-            no-start h = rw (le-leb 1 (r .names) a, le-leb (r .names) 500 b, le-leb 1 (r .rows) c, le-leb (r .rows) 2000 d, lt-ltb (r .local) (r .names) e, lt-leb (r .start) 1 h)
+  pub no-start : 1 < r .start → false ≡ recordFits r
+  unfolding recordFits
+  no-start h = rw (lt-leb (r .start) 1 h, and-false, and-false, and-false, and-false, and-false)
 
-            pub last-sole : r .start ≤ 1 → leb (r .sole) 1 ≡ recordFits r
-            unfolding recordFits
-            last-sole h = rw (le-leb 1 (r .names) a, le-leb (r .names) 500 b, le-leb 1 (r .rows) c, le-leb (r .rows) 2000 d, lt-ltb (r .local) (r .names) e, le-leb (r .start) 1 h)
+  -- the last test decides where all others passed
+  pub last-sole : 1 ≤ r .names → r .names ≤ 500 → 1 ≤ r .rows → r .rows ≤ 2000 → r .local < r .names → r .start ≤ 1 → leb (r .sole) 1 ≡ recordFits r
+  unfolding recordFits
+  last-sole a b c d e f =
+      rw
+      (le-leb 1 (r .names) a, le-leb (r .names) 500 b, le-leb 1 (r .rows) c, le-leb (r .rows) 2000 d, lt-ltb (r .local) (r .names) e, le-leb (r .start) 1 f)
 
 pub few-names : (r : Record) (b : Bool) → b ≡ recordFits r → not b ≡ false → r .names ≤ 500
 unfolding recordFits

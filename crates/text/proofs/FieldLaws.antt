@@ -8,9 +8,9 @@ use native.Mathlib.Omega.{arith}
 use lib.Dec.{eqb, ltb}
 use lib.ListN.{length, take, drop}
 use borrow.Author.Tests.{ltb-true, eqb-true, eqb-false}
-use Rattle.text.specs.Fields.{fieldLength, fieldOf, field, stopAt, stands, endsBy, after, startsWith, afterKey}
+use Rattle.text.specs.Fields.{fieldLength, fieldOf, field, stopAt, stands, endsBy, after, startsWith, afterKey, allGraphic}
 use Rattle.text.specs.Numbers.{bounded, numberOf}
-use Rattle.text.specs.Runs.{nextField, fieldNumber, allGraphic, graphicLength, GraphicRead}
+use Rattle.text.specs.Runs.{nextField, fieldNumber, graphicLength, GraphicRead}
 use Rattle.text.proofs.Stops.{byte-stands, byte-after, byte-missing}
 use Rattle.text.proofs.FieldReads.{whole-stop}
 use Rattle.text.proofs.GraphicLaws.{shows}

@@ -7,8 +7,8 @@ use native.Mathlib.Omega.{arith}
 use lib.Dec.{leb}
 use lib.ListN.{drop}
 use borrow.Author.Tests.{leb-true, ne-eqb}
-use Rattle.text.specs.Fields.{isStop, fieldLength, fieldOf, field, stopAt, stands, afterByte, endsBy}
-use Rattle.text.specs.Runs.{nextField, isGraphic, allGraphic, graphicLength, GraphicRead}
+use Rattle.text.specs.Fields.{isStop, fieldLength, fieldOf, field, stopAt, stands, afterByte, endsBy, isGraphic, allGraphic}
+use Rattle.text.specs.Runs.{nextField, graphicLength, GraphicRead}
 use Rattle.text.proofs.Stops.{byte-stands, byte-missing}
 use Rattle.text.proofs.FieldReads.{Reads, reads-all, reads-none, reads-more, rest-stop, here, told-all, told-some}
 

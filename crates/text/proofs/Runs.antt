@@ -10,9 +10,9 @@ use lib.Dec.{leb}
 use lib.ListN.{length, drop, drop-of-length-le}
 use lib.Seq.{drop-cons}
 use borrow.Author.Tests.{leb-true, le-leb, lt-leb, eq-eqb, ne-eqb, not-true, not-false}
-use Rattle.text.specs.Fields.{byteAt}
+use Rattle.text.specs.Fields.{byteAt, isGraphic}
 use Rattle.text.specs.Numbers.{isDigit}
-use Rattle.text.specs.Runs.{goesOn, moreValue, moreCount, firstValue, firstCount, DigitValue, MoreRead, FirstRead, isGraphic, graphicLength}
+use Rattle.text.specs.Runs.{goesOn, moreValue, moreCount, firstValue, firstCount, DigitValue, MoreRead, FirstRead, graphicLength}
 
 pub small : (b : ℕ) → b < 48 → false ≡ isDigit b
 unfolding isDigit

@@ -2,7 +2,7 @@
 use Prim.Native.Nat.{ℕ, zero, suc, _+_}
 use mathlib.Core.Bool.{Bool, true, false, cond, _&&_, _||_}
 use mathlib.Core.List.{List, [], _∷_}
-use lib.Dec.{eqb, ltb}
+use lib.Dec.{eqb, leb, ltb}
 use lib.ListN.{length, take, drop, getD}
 
 -- the byte at a place, 0 past the end
@@ -61,3 +61,11 @@ below [] [] = false
 below [] (y ∷ ys) = true
 below (x ∷ xs) [] = false
 below (x ∷ xs) (y ∷ ys) = cond (eqb x y) (below xs ys) (ltb x y)
+
+-- "4: .. a byte outside 33..126": whether a name may hold this byte, and whether all of a text may stand in one
+unfoldable pub isGraphic : ℕ → Bool
+isGraphic b = leb 33 b && leb b 126
+
+unfoldable pub allGraphic : List ℕ → Bool
+allGraphic [] = true
+allGraphic (b ∷ t) = isGraphic b && allGraphic t

@@ -2,11 +2,11 @@
 -- of a field is proved in proofs/DigitLaws and proofs/NameLaws.
 use Prim.Native.Nat.{ℕ, zero, suc, _+_, _-_, _*_, _≤_}
 use mathlib.Core.Path.{_≡_}
-use mathlib.Core.Bool.{Bool, true, cond, _&&_}
+use mathlib.Core.Bool.{Bool, cond, _&&_}
 use mathlib.Core.List.{List, [], _∷_}
 use lib.Dec.{eqb, leb}
 use lib.ListN.{drop}
-use Rattle.text.specs.Fields.{stopAt, afterByte, endsBy, field}
+use Rattle.text.specs.Fields.{stopAt, afterByte, endsBy, field, isGraphic, allGraphic}
 use Rattle.text.specs.Numbers.{Spelled, none, isDigit, numberOf}
 
 -- whether a byte goes on with a number that is v so far: a digit, after which the number is below 4,294,967,300
@@ -52,17 +52,10 @@ nextField sep end s at = afterByte end s (stopAt sep s at)
 unfoldable pub fieldNumber : ℕ → ℕ → List ℕ → ℕ → Spelled
 fieldNumber sep end s at = cond (endsBy sep end s at) (numberOf (field sep s at)) none
 
--- "a byte outside 33..126" does not stand in a name
-unfoldable pub isGraphic : ℕ → Bool
-isGraphic b = leb 33 b && leb b 126
-
+-- how many bytes go on with a name
 unfoldable pub graphicLength : List ℕ → ℕ
 graphicLength [] = zero
 graphicLength (b ∷ t) = cond (isGraphic b) (suc (graphicLength t)) zero
-
-unfoldable pub allGraphic : List ℕ → Bool
-allGraphic [] = true
-allGraphic (b ∷ t) = isGraphic b && allGraphic t
 
 -- what `graphic_line` tells of the text from a place up to the end of its line
 pub record GraphicRead (s : List ℕ) (at : ℕ) (all : Bool) (stop next : ℕ) : Type 0 where
