@@ -1,7 +1,10 @@
-// What the programs that run cases share: their text taken apart, and text and digests put together.
+// What the programs that run cases share: their text taken apart, text and digests put together, and rows of tables set.
+use kinds::Found;
 ghost use mathlib.Core.Path.{_≡_};
 ghost use Prim.Native.Nat.{_+_, _%_, _≤_, _<_};
 ghost use lib.ListN.{length, getD, take, drop, set};
+ghost use Rattle.kinds.specs.Words.{kindOf};
+ghost use Rattle.case_text.specs.RowTexts.{kindNumber, kindField, setRow};
 ghost use Rattle.case_text.specs.Texts.{firstPlace, smaller, pastPlace, spelled, putPlace, putAll, allPlace, figureOf, fourFigures, hexDigit, hexByte, digestStep, digestOf};
 
 // The place of the first such byte, or the length.
@@ -167,4 +170,47 @@ pub fn digest(numbers: &[u32]) -> usize
         i += 1;
     }
     d
+}
+
+// The kind number of a word; 66, the first number that is no kind's, where it is none.
+pub fn kind(word: &[u8]) -> u32
+    ensures { λ r. ⌜ r ≡ kindNumber (kindOf (now (word .entry))) ⌝ }
+{
+    let found = kinds::find_kind(word);
+    match found {
+        Found::Is(k) => k,
+        Found::Unknown => 66,
+    }
+}
+
+// The number that a text spells, as the tables hold it.
+pub fn field(text: &[u8]) -> u32
+    ensures { λ r. ⌜ r ≡ spelled 0 (now (text .entry)) % 4294967296 ⌝ }
+{
+    (decimal(text) % 4294967296) as u32
+}
+
+// The kind of a row by its word or, where it is none, by its number.
+pub fn kind_field(text: &[u8]) -> u32
+    ensures { λ r. ⌜ r ≡ kindField (now (text .entry)) ⌝ }
+{
+    let k = kind(text);
+    if k == 66 {
+        return field(text);
+    }
+    k
+}
+
+// Sets row i, if the table has it; lo and hi are free.
+pub fn set_row(rows: &mut [u32], i: usize, kind: u32, side: u32, end: u32)
+    ensures { λ r. ⌜ now (rows .exit) ≡ setRow (now (rows .entry)) i kind side end ⌝ }
+{
+    if rows.len() / 5 <= i {
+        return;
+    }
+    rows[5 * i] = kind;
+    rows[5 * i + 1] = side;
+    rows[5 * i + 2] = 4294967295;
+    rows[5 * i + 3] = 0;
+    rows[5 * i + 4] = end;
 }

@@ -3,11 +3,8 @@
 // number and the row, or 0 where a check passed. Rows `*nested` or `*flat` stand for so many blocks as the count says, each in the
 // one before it or all in the first. A line without `|` is a word: its kind number, 66 where it is none.
 use checks::Checked;
-use kinds::Found;
 use libc::STDIN_FILENO;
 use libc::STDOUT_FILENO;
-ghost use Prim.Native.Nat.{_≤_};
-ghost use lib.ListN.{length};
 
 fn say(text: &[u8]) {
     io::write_all(STDOUT_FILENO, text);
@@ -37,53 +34,14 @@ fn report(title: &[u8], rows: &[u32], count: usize, names: usize) {
     say(b"\n");
 }
 
-// The kind number of a word; 66, the first number that is no kind's, where it is none.
-fn kind(word: &[u8]) -> u32 {
-    match kinds::find_kind(word) {
-        Found::Is(k) => k,
-        Found::Unknown => 66,
-    }
-}
-
-fn decimal(text: &[u8]) -> u32 {
-    (case_text::decimal(text) % 4294967296) as u32
-}
-
-fn put(rows: &mut [u32], at: usize, value: u32) {
-    if at < rows.len() {
-        rows[at] = value;
-    }
-}
-
-// Sets row i, as far as the table has it; lo and hi are free.
-fn row(rows: &mut [u32], i: usize, kind: u32, side: u32, end: u32) {
-    if 2001 <= i {
-        return;
-    }
-    put(rows, 5 * i, kind);
-    put(rows, 5 * i + 1, side);
-    put(rows, 5 * i + 2, 4294967295);
-    put(rows, 5 * i + 3, 0);
-    put(rows, 5 * i + 4, end);
-}
-
-// The kind of a row by its word or, where it is none, by its number.
-fn kind_field(text: &[u8]) -> u32 {
-    let k = kind(text);
-    if k == 66 {
-        return decimal(text);
-    }
-    k
-}
-
 fn row_of(rows: &mut [u32], i: usize, text: &[u8]) {
     let rest = case_text::after(text, b' ');
-    row(
+    case_text::set_row(
         rows,
         i,
-        kind_field(case_text::before(text, b' ')),
-        decimal(case_text::before(rest, b' ')),
-        decimal(case_text::after(rest, b' ')),
+        case_text::kind_field(case_text::before(text, b' ')),
+        case_text::field(case_text::before(rest, b' ')),
+        case_text::field(case_text::after(rest, b' ')),
     );
 }
 
@@ -105,10 +63,10 @@ fn blocks(rows: &mut [u32], count: u32, nested: bool) {
     let mut i: u32 = 0;
     while i < count {
         let end = if nested { count } else { i + 1 };
-        row(rows, table::wide(i), 20, 0, end);
+        case_text::set_row(rows, table::wide(i), 20, 0, end);
         i += 1;
     }
-    row(rows, 0, 20, 0, count);
+    case_text::set_row(rows, 0, 20, 0, count);
 }
 
 fn rows_of(rows: &mut [u32], count: u32, text: &[u8]) {
@@ -122,11 +80,11 @@ fn rows_of(rows: &mut [u32], count: u32, text: &[u8]) {
 fn one_case(title: &[u8], text: &[u8]) {
     let mut space = [0u32; 10005];
     let rows: &mut [u32] = &mut space;
-    let count = decimal(case_text::before(text, b'|'));
+    let count = case_text::field(case_text::before(text, b'|'));
     let rest = case_text::after(text, b'|');
-    let numbers = table::wide(decimal(case_text::before(rest, b'|')));
+    let numbers = table::wide(case_text::field(case_text::before(rest, b'|')));
     let named = case_text::after(rest, b'|');
-    let names = table::wide(decimal(case_text::before(named, b'|')));
+    let names = table::wide(case_text::field(case_text::before(named, b'|')));
     rows_of(rows, count, case_text::after(named, b'|'));
     let shared = &rows[..];
     if numbers <= shared.len() {
@@ -140,7 +98,7 @@ fn line(text: &[u8]) {
     } else {
         say(text);
         say(b" ");
-        number(table::wide(kind(text)));
+        number(table::wide(case_text::kind(text)));
         say(b"\n");
     }
 }

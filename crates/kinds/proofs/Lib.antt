@@ -4,3 +4,4 @@ pub mod Items
 pub mod Steps
 pub mod Keys
 pub mod Words
+pub mod Named

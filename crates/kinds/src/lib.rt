@@ -5,6 +5,7 @@ ghost use mathlib.Core.List.{List, _∷_, map};
 ghost use Prim.Native.Nat.{ℕ};
 ghost use Rattle.kinds.specs.Kinds.{Item, Sides, kinds as kindList, inClass, S, sideFits, takes};
 ghost use Rattle.kinds.specs.Words.{kindOf};
+ghost use Rattle.kinds.specs.Named.{exprKind};
 ghost use Rattle.kinds.specs.Numbers.{numbers, sidesNumber, itemsNumber, sideBelow, ofFirst, takesFirst, repeatsFirst, restFirst, afterFirst, letters, key, twelveFrom, KeyTold, KindTold};
 
 // What the table holds of a kind: how many side numbers it has, 0 for as many as there are names, and its children, four
@@ -18,6 +19,20 @@ pub struct Kind {
 pub enum Found {
     Is(u32),
     Unknown,
+}
+
+// The kinds that the rules of expressions and targets name.
+pub enum ExprKind {
+    Ident,
+    Call,
+    Lident,
+    Opaque,
+    Event,
+    Unary,
+    Binary,
+    Ternary,
+    Paren,
+    Other,
 }
 
 // The kind whose word the small letters from a place on are, and the place after them; at most twelve are read, more than
@@ -392,6 +407,24 @@ pub fn is_statement(kind: usize) -> bool
         return false;
     }
     kind < 40
+}
+
+// What the rules of expressions and targets call a kind.
+pub fn expr_kind(kind: usize) -> ExprKind
+    ensures { λ r. ⌜ r ≡ exprKind kind ⌝ }
+{
+    match kind {
+        7 => ExprKind::Event,
+        41 => ExprKind::Ident,
+        42 => ExprKind::Unary,
+        43 => ExprKind::Binary,
+        44 => ExprKind::Ternary,
+        54 => ExprKind::Call,
+        55 => ExprKind::Paren,
+        59 => ExprKind::Opaque,
+        60 => ExprKind::Lident,
+        _ => ExprKind::Other,
+    }
 }
 
 // Whether a kind is of the class that the first item of a kind's children asks for.

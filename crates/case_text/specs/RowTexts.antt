@@ -1,0 +1,25 @@
+-- A table's rows as a case's text gives them. Definitions only.
+use Prim.Native.Nat.{ℕ, _+_, _*_, _/_, _%_}
+use mathlib.Core.Bool.{cond}
+use mathlib.Core.List.{List}
+use lib.Dec.{eqb, leb}
+use lib.ListN.{length, set}
+use Rattle.kinds.specs.declared.Found.{Found}
+use Rattle.kinds.specs.declared.Found.the-variants.{Is, Unknown}
+use Rattle.kinds.specs.Words.{kindOf}
+use Rattle.case_text.specs.Texts.{spelled}
+
+-- a kind's number, 66 for none
+unfoldable pub kindNumber : Found → ℕ
+kindNumber (Is k) = k
+kindNumber Unknown = 66
+
+-- the kind of a word or, where it is no kind's, of a number
+unfoldable pub kindField : List ℕ → ℕ
+kindField text = cond (eqb (kindNumber (kindOf text)) 66) (spelled 0 text % 4294967296) (kindNumber (kindOf text))
+
+-- the five numbers of row i set, a row that the table lacks left out; lo and hi are free
+unfoldable pub setRow : List ℕ → ℕ → ℕ → ℕ → ℕ → List ℕ
+setRow rows i kind side end =
+    cond (leb (length rows / 5) i) rows
+    (set (set (set (set (set rows (5 * i) kind) (5 * i + 1) side) (5 * i + 2) 4294967295) (5 * i + 3) 0) (5 * i + 4) end)

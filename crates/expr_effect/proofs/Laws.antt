@@ -1,0 +1,321 @@
+-- The law of an expression, for every row. Of evaluation it cites the rules and the two laws of paths, of the reference test
+-- that iff makes no difference where none refers.
+use Prim.Native.Nat.{ℕ, zero, suc}
+use lib.Dec.{eqb}
+use mathlib.Core.Path.{_≡_, refl, sym, ap, subst, _∙_}
+use mathlib.Core.Bool.{Bool, true, false, cond, _||_, not}
+use mathlib.Core.List.{List, _∷_}
+use Rattle.table.specs.Rows.{Forest, nil, node}
+use Rattle.table.specs.Fold.{fold, nth, Pairwise, no-pair, pair}
+use Rattle.table.proofs.Fold.{related-at}
+use Rattle.kinds.specs.declared.ExprKind.{ExprKind}
+use Rattle.kinds.specs.declared.ExprKind.the-variants.{Ident, Call, Lident, Opaque, Event, Unary, Binary, Ternary, Paren, Other}
+use Rattle.kinds.specs.Named.{exprKind}
+use Rattle.kinds.proofs.Below.{true-not-false}
+use Rattle.reads.specs.declared.Iff.the-variants.{Skipped, Held}
+use Rattle.reads.specs.Mentions.{refers}
+use Rattle.reads.specs.NoRef.{isLocal, iffQuiet}
+use Rattle.reads.proofs.Trees.{quiet-children, quiet-others, quiet-alone, refers-quiet}
+use Rattle.paths.specs.Marks.{Mark, full, none}
+use Rattle.paths.specs.Commands.{Command, write, emit, seq}
+use Rattle.paths.specs.Triples.{Triple, at, never}
+use Rattle.paths.specs.Evaluation.{Evaluation, Truth, is-true, is-false, opposite, free, asked, both, either, conditional, writeIf, noEvaluation, evaluationOf, evaluationAt, evaluations}
+use Rattle.paths.specs.Evaluates.{Evaluates}
+use Rattle.paths.proofs.Rules.{rule-skip, rule-write, rule-seq}
+use Rattle.paths.proofs.Steady.{evaluates-forget, evaluates-free, evaluates-asked, chain, chain-triple, conditional-triple, calm-row, quiet-row}
+use Rattle.expr_effect.specs.declared.ExprDa.{ExprDa}
+use Rattle.expr_effect.specs.declared.ExprDa.the-variants.{Clean, Writes, Reads}
+use Rattle.expr_effect.specs.declared.Outcome.{Outcome}
+use Rattle.expr_effect.specs.declared.Form.{Form}
+use Rattle.expr_effect.specs.declared.Form.the-variants.{Inner, LogNot, Operand, LogAnd, LogOr, Operands, Arms, CallWrites, Vetted}
+use Rattle.expr_effect.specs.Effect.{unaryForm, binaryForm, callForm, formOf, join, shortCircuit, oneArm, afterCond, writesWhen, effectOf, operandsWrite, selfGuarded, combined, guarded, noOutcome, rowOutcome, outcomeAt, outcomes, outcomeOf, exprDa, unguarded}
+use Rattle.expr_effect.specs.Law.{EffectLaw, Meets, WhenLaw, isPlain, ExprFacts, factsAt, exprFacts, noFacts, ExprLaw, OutcomeTold, EffectTold}
+
+-- what the effect and the writing on an outcome say of an evaluation
+pub record Sound (o : Outcome) (e : Evaluation) : Type 0 where
+  pub calm : Evaluates full full e
+  pub effect : EffectLaw (o .effect) e
+  pub when : (want : Bool) (t : Truth) → Meets want t → WhenLaw (writesWhen o want) (e .truth t)
+
+-- the writing of a row that guards itself
+
+abbrev IsClean : ExprDa → Type 0
+IsClean Clean = Unit
+IsClean Writes = ⊥
+IsClean Reads = ⊥
+
+guard-when : (d : ExprDa) (w : Bool) (e : Evaluation) (t : Truth) → EffectLaw d e → (IsClean d → WhenLaw w (e .truth t)) → WhenLaw (selfGuarded d w) (e .truth t)
+guard-when Clean w e t l h = h tt
+guard-when Writes w e t l h = l .truth t
+guard-when Reads w e t l h = tt
+
+module _ (m : Form) (n : Bool) (a b c : Outcome) (e : Evaluation) where
+  row-when : EffectLaw (effectOf m n a b c) e
+      → ((want : Bool) (t : Truth) → Meets want t → IsClean (effectOf m n a b c) → WhenLaw (operandsWrite m want a b) (e .truth t))
+      → (want : Bool) (t : Truth) → Meets want t → WhenLaw (writesWhen (guarded (combined m n a b c)) want) (e .truth t)
+  row-when l h true t q = guard-when (effectOf m n a b c) (operandsWrite m true a b) e t l (h true t q)
+  row-when l h false t q = guard-when (effectOf m n a b c) (operandsWrite m false a b) e t l (h false t q)
+
+  row-sound : Evaluates full full e
+      → EffectLaw (effectOf m n a b c) e
+      → ((want : Bool) (t : Truth) → Meets want t → IsClean (effectOf m n a b c) → WhenLaw (operandsWrite m want a b) (e .truth t))
+      → Sound (guarded (combined m n a b c)) e
+  row-sound k l h = record { calm = k; effect = l; when = row-when l h }
+
+-- the reference test decides
+
+vetted-effect : (n : Bool) (e : Evaluation) → (n ≡ false → Evaluates none none e) → EffectLaw (cond n Reads Clean) e
+vetted-effect true e q = tt
+vetted-effect false e q = q refl
+
+vetted-sound : (n : Bool) (e : Evaluation) → Evaluates full full e → (n ≡ false → Evaluates none none e) → Sound (guarded (combined Vetted n noOutcome noOutcome noOutcome)) e
+vetted-sound n e k q = row-sound Vetted n noOutcome noOutcome noOutcome e k (vetted-effect n e q) (λ want t p i. tt)
+
+-- the operand of a unary operator
+
+free-effect : (d : ExprDa) (e : Evaluation) → EffectLaw d e → EffectLaw d (free (e .value))
+free-effect Clean e l = evaluates-free (l .value)
+free-effect Writes e l = evaluates-free (l .value)
+free-effect Reads e l = tt
+
+flip-effect : (d : ExprDa) (e : Evaluation) → EffectLaw d e → EffectLaw d (asked (λ t. e .truth (opposite t)))
+flip-effect Clean e l = evaluates-asked (λ t. l .truth (opposite t))
+flip-effect Writes e l = evaluates-asked (λ t. l .truth (opposite t))
+flip-effect Reads e l = tt
+
+flip-meets : (want : Bool) (t : Truth) → Meets want t → Meets (not want) (opposite t)
+flip-meets true is-true q = q
+flip-meets true is-false q = q
+flip-meets false is-true q = q
+flip-meets false is-false q = q
+
+-- both operands of a binary operator
+
+join-effect : (d e : ExprDa) (l r : Evaluation) → Evaluates full full r → EffectLaw d l → EffectLaw e r → EffectLaw (join d e) (free (seq (l .value) (r .value)))
+join-effect Reads e l r k p q = tt
+join-effect Writes Reads l r k p q = tt
+join-effect Writes Writes l r k p q = evaluates-free (rule-seq (p .value) (k .value))
+join-effect Writes Clean l r k p q = evaluates-free (rule-seq (p .value) (k .value))
+join-effect Clean Reads l r k p q = tt
+join-effect Clean Writes l r k p q = evaluates-free (rule-seq (p .value) (q .value))
+join-effect Clean Clean l r k p q = evaluates-free (rule-seq (p .value) (q .value))
+
+-- && and ||: `reached` is the truth of the left after which the right is evaluated
+
+module _ (reached : Truth) (l r : Evaluation) (k : Evaluates full full r) where
+  short-effect : (d e : ExprDa) (wrote : Bool) → EffectLaw d l → EffectLaw e r → WhenLaw wrote (l .truth reached) → EffectLaw (shortCircuit d e wrote) (asked (chain reached l r))
+  short-effect Writes e wrote p q w = evaluates-asked (chain-triple reached p (p .truth reached) k)
+  short-effect Reads e wrote p q w = tt
+  short-effect Clean Clean wrote p q w = evaluates-asked (chain-triple reached p (p .truth reached) q)
+  short-effect Clean Writes wrote p q w = evaluates-asked (chain-triple reached p (p .truth reached) (evaluates-forget q))
+  short-effect Clean Reads true p q w = evaluates-asked (chain-triple reached p w (evaluates-forget k))
+  short-effect Clean Reads false p q w = tt
+
+  -- both were evaluated: the left wrote, or the right did
+  short-when : (d e : ExprDa) (wrote u v : Bool) (t : Truth) → IsClean (shortCircuit d e wrote) → EffectLaw d l → WhenLaw u (l .truth t) → WhenLaw v (r .truth t) → WhenLaw (u || v) (seq (l .truth t) (r .truth t))
+  short-when d e wrote true v t i p a b = rule-seq a (k .truth t)
+  short-when Clean e wrote false true t i p a b = rule-seq (p .truth t) b
+  short-when Writes e wrote false true t i p a b = absurd i
+  short-when Reads e wrote false true t i p a b = absurd i
+  short-when d e wrote false false t i p a b = tt
+
+-- a conditional
+
+module _ (l r : Evaluation) (kl : Evaluates full full l) (kr : Evaluates full full r) (c : Evaluation) where
+  arms-effect : (d e : ExprDa) → Evaluates none none c → EffectLaw d l → EffectLaw e r → EffectLaw (oneArm d e) (free (conditional c l r))
+  arms-effect Reads e h p q = tt
+  arms-effect Writes Reads h p q = tt
+  arms-effect Writes Writes h p q = evaluates-free (conditional-triple h (evaluates-forget p) (evaluates-forget q))
+  arms-effect Writes Clean h p q = evaluates-free (conditional-triple h (evaluates-forget p) q)
+  arms-effect Clean Reads h p q = tt
+  arms-effect Clean Writes h p q = evaluates-free (conditional-triple h p (evaluates-forget q))
+  arms-effect Clean Clean h p q = evaluates-free (conditional-triple h p q)
+
+  conditional-effect : (f d e : ExprDa) → EffectLaw f c → EffectLaw d l → EffectLaw e r → EffectLaw (afterCond f (oneArm d e)) (free (conditional c l r))
+  conditional-effect Writes d e h p q = evaluates-free (conditional-triple h kl kr)
+  conditional-effect Reads d e h p q = tt
+  conditional-effect Clean d e h p q = arms-effect d e h p q
+
+-- each form of a row, from its operands
+
+module _ (n : Bool) (a b c : Outcome) (d e f : Evaluation) (p : Sound a d) (q : Sound b e) (r : Sound c f) where
+  inner-sound : Sound (guarded (combined Inner n a b c)) d
+  inner-sound = row-sound Inner n a b c d (p .calm) (p .effect) (λ want t m i. p .when want t m)
+
+  operand-sound : Sound (guarded (combined Operand n a b c)) (free (d .value))
+  operand-sound = row-sound Operand n a b c (free (d .value)) (evaluates-free (p .calm .value)) (free-effect (a .effect) d (p .effect)) (λ want t m i. tt)
+
+  not-sound : Sound (guarded (combined LogNot n a b c)) (asked (λ t. d .truth (opposite t)))
+  not-sound =
+      row-sound LogNot n a b c (asked (λ t. d .truth (opposite t)))
+      (evaluates-asked (λ t. p .calm .truth (opposite t)))
+      (flip-effect (a .effect) d (p .effect))
+      (λ want t m i. p .when (not want) (opposite t) (flip-meets want t m))
+
+  operands-sound : Sound (guarded (combined Operands n a b c)) (free (seq (d .value) (e .value)))
+  operands-sound =
+      row-sound Operands n a b c (free (seq (d .value) (e .value)))
+      (evaluates-free (rule-seq (p .calm .value) (q .calm .value)))
+      (join-effect (a .effect) (b .effect) d e (q .calm) (p .effect) (q .effect))
+      (λ want t m i. tt)
+
+  arms-sound : Sound (guarded (combined Arms n a b c)) (free (conditional d e f))
+  arms-sound =
+      row-sound Arms n a b c (free (conditional d e f))
+      (evaluates-free (conditional-triple (p .calm) (q .calm) (r .calm)))
+      (conditional-effect e f (q .calm) (r .calm) d (a .effect) (b .effect) (c .effect) (p .effect) (q .effect) (r .effect))
+      (λ want t m i. tt)
+
+  chain-calm : (reached : Truth) → Evaluates full full (asked (chain reached d e))
+  chain-calm reached = evaluates-asked (chain-triple reached (p .calm) (p .calm .truth reached) (q .calm))
+
+  and-sound : Sound (guarded (combined LogAnd n a b c)) (asked (both d e))
+  and-sound =
+      row-sound LogAnd n a b c (asked (both d e))
+      (chain-calm is-true)
+      (short-effect is-true d e (q .calm) (a .effect) (b .effect) (a .«when_true») (p .effect) (q .effect) (p .when true is-true tt))
+      and-when
+    where
+      and-when : (want : Bool) (t : Truth) → Meets want t → IsClean (effectOf LogAnd n a b c) → WhenLaw (operandsWrite LogAnd want a b) (both d e t)
+      and-when true is-true m i = short-when is-true d e (q .calm) (a .effect) (b .effect) (a .«when_true») (a .«when_true») (b .«when_true») is-true i (p .effect) (p .when true is-true tt) (q .when true is-true tt)
+      and-when true is-false m i = absurd m
+      and-when false is-true m i = tt
+      and-when false is-false m i = tt
+
+  or-sound : Sound (guarded (combined LogOr n a b c)) (asked (either d e))
+  or-sound =
+      row-sound LogOr n a b c (asked (either d e))
+      (chain-calm is-false)
+      (short-effect is-false d e (q .calm) (a .effect) (b .effect) (a .«when_false») (p .effect) (q .effect) (p .when false is-false tt))
+      or-when
+    where
+      or-when : (want : Bool) (t : Truth) → Meets want t → IsClean (effectOf LogOr n a b c) → WhenLaw (operandsWrite LogOr want a b) (either d e t)
+      or-when true is-true m i = tt
+      or-when true is-false m i = tt
+      or-when false is-true m i = absurd m
+      or-when false is-false m i = short-when is-false d e (q .calm) (a .effect) (b .effect) (a .«when_false») (a .«when_false») (b .«when_false») is-false i (p .effect) (p .when false is-false tt) (q .when false is-false tt)
+
+writes-sound : (n : Bool) → Sound (guarded (combined CallWrites n noOutcome noOutcome noOutcome)) (free (emit write))
+writes-sound n =
+    row-sound CallWrites n noOutcome noOutcome noOutcome (free (emit write)) (evaluates-free rule-write) (evaluates-free rule-write) (λ want t m i. absurd i)
+
+no-sound : Sound noOutcome noEvaluation
+no-sound = record { calm = evaluates-free rule-skip; effect = evaluates-free rule-skip; when = none-when }
+  where
+    none-when : (want : Bool) (t : Truth) → Meets want t → WhenLaw (writesWhen noOutcome want) (noEvaluation .truth t)
+    none-when true t m = tt
+    none-when false t m = tt
+
+-- each kind of a row, by its side
+
+module _ (n : Bool) (a b c : Outcome) (d e f : Evaluation) (p : Sound a d) (q : Sound b e) (r : Sound c f) where
+  unary-sound : (i : Bool) → Sound (guarded (combined (cond i LogNot Operand) n a b c)) (cond i (asked (λ t. d .truth (opposite t))) (free (d .value)))
+  unary-sound true = not-sound n a b c d e f p q r
+  unary-sound false = operand-sound n a b c d e f p q r
+
+  binary-sound : (i j : Bool) → Sound (guarded (combined (cond i LogAnd (cond j LogOr Operands)) n a b c)) (cond i (asked (both d e)) (cond j (asked (either d e)) (free (seq (d .value) (e .value)))))
+  binary-sound true j = and-sound n a b c d e f p q r
+  binary-sound false true = or-sound n a b c d e f p q r
+  binary-sound false false = operands-sound n a b c d e f p q r
+
+call-sound : (n i : Bool) (a b c : Outcome) (e : Evaluation)
+    → Evaluates full full (cond i (free (emit write)) e)
+    → (n ≡ false → Evaluates none none (cond i (free (emit write)) e))
+    → Sound (guarded (combined (cond i CallWrites Vetted) n a b c)) (cond i (free (emit write)) e)
+call-sound n true a b c e k q = writes-sound n
+call-sound n false a b c e k q = vetted-sound n e k q
+
+module _ (x s : ℕ) (cs : Forest) (n : Bool) {os : List Outcome} {es : List Evaluation} (ps : Pairwise Sound os es) where
+  child : (i : ℕ) → Sound (nth noOutcome i os) (nth noEvaluation i es)
+  child i = related-at noOutcome noEvaluation i no-sound ps
+
+  sound-kind : (k : ExprKind)
+      → Evaluates full full (evaluationOf x k s cs es)
+      → (n ≡ false → Evaluates none none (evaluationOf x k s cs es))
+      → Sound (guarded (combined (formOf k s) n (nth noOutcome 0 os) (nth noOutcome 1 os) (nth noOutcome 2 os))) (evaluationOf x k s cs es)
+  unfolding unaryForm binaryForm callForm
+  sound-kind Unary h v = unary-sound n _ _ _ _ _ _ (child 0) (child 1) (child 2) (eqb s 1)
+  sound-kind Binary h v = binary-sound n _ _ _ _ _ _ (child 0) (child 1) (child 2) (eqb s 1) (eqb s 2)
+  sound-kind Ternary h v = arms-sound n _ _ _ _ _ _ (child 0) (child 1) (child 2)
+  sound-kind Call h v = call-sound n (eqb s 1) _ _ _ _ h v
+  sound-kind Paren h v = inner-sound n _ _ _ _ _ _ (child 0) (child 1) (child 2)
+  sound-kind Ident h v = vetted-sound n _ h v
+  sound-kind Lident h v = vetted-sound n _ h v
+  sound-kind Opaque h v = vetted-sound n _ h v
+  sound-kind Event h v = vetted-sound n _ h v
+  sound-kind Other h v = vetted-sound n _ h v
+
+-- a row that does not refer by the walk's test reads nothing, where no iff refers
+row-quiet : (x k s lo hi : ℕ) (cs others : Forest) → iffQuiet x (node k s lo hi cs others) ≡ true → refers Skipped x (node k s lo hi cs nil) ≡ false → Evaluates none none (evaluationAt x k s lo hi cs (evaluations x cs))
+row-quiet x k s lo hi cs others q e = quiet-row x k s lo hi cs (sym (refers-quiet x (node k s lo hi cs nil) (quiet-alone x k s lo hi cs others q)) ∙ e)
+
+sound : (x : ℕ) (f : Forest) → iffQuiet x f ≡ true → Pairwise Sound (outcomes x f) (evaluations x f)
+unfolding fold outcomeAt evaluationAt
+sound x nil q = no-pair
+sound x (node k s lo hi cs others) q =
+    pair
+    (sound-kind x s cs (refers Skipped x (node k s lo hi cs nil)) (sound x cs (quiet-children x k s lo hi cs others q)) (exprKind k) (calm-row x k s lo hi cs) (row-quiet x k s lo hi cs others q))
+    (sound x others (quiet-others x k s lo hi cs others q))
+
+-- the law of an expression
+
+write-plain : (plain : Bool) → plain ≡ true → Triple none (writeIf plain) (at full) never
+write-plain true e = rule-write
+write-plain false e = true-not-false (sym e)
+
+plain-writes : (x : ℕ) (k : ExprKind) (s : ℕ) (cs : Forest) (es : List Evaluation) → isPlain x k cs ≡ true → Triple none (evaluationOf x k s cs es .store) (at full) never
+plain-writes x Lident s cs es e = write-plain (isLocal x cs) e
+plain-writes x Ident s cs es e = true-not-false (sym e)
+plain-writes x Call s cs es e = true-not-false (sym e)
+plain-writes x Opaque s cs es e = true-not-false (sym e)
+plain-writes x Event s cs es e = true-not-false (sym e)
+plain-writes x Unary s cs es e = true-not-false (sym e)
+plain-writes x Binary s cs es e = true-not-false (sym e)
+plain-writes x Ternary s cs es e = true-not-false (sym e)
+plain-writes x Paren s cs es e = true-not-false (sym e)
+plain-writes x Other s cs es e = true-not-false (sym e)
+
+first-of : {o : Outcome} {e : Evaluation} {os : List Outcome} {es : List Evaluation} → Pairwise Sound (o ∷ os) (e ∷ es) → Sound o e
+first-of (pair h hs) = h
+
+row-law : (x k s lo hi : ℕ) (cs others : Forest) → iffQuiet x (node k s lo hi cs others) ≡ true → Sound (outcomeAt x k s lo hi cs (outcomes x cs)) (evaluationAt x k s lo hi cs (evaluations x cs)) → ExprLaw (factsAt x k s lo hi cs (exprFacts x cs)) (evaluationAt x k s lo hi cs (evaluations x cs))
+unfolding factsAt evaluationAt
+row-law x k s lo hi cs others q h = record {
+  calm = h .calm;
+  quiet = row-quiet x k s lo hi cs others q;
+  effect = h .effect;
+  when = h .when;
+  plainly = plain-writes x (exprKind k) s cs (evaluations x cs);
+}
+
+pub expr-laws : (x : ℕ) (f : Forest) → iffQuiet x f ≡ true → Pairwise ExprLaw (exprFacts x f) (evaluations x f)
+unfolding fold factsAt
+expr-laws x nil q = no-pair
+expr-laws x (node k s lo hi cs others) q =
+    pair (row-law x k s lo hi cs others q (first-of (sound x (node k s lo hi cs others) q))) (expr-laws x others (quiet-others x k s lo hi cs others q))
+
+pub no-law : ExprLaw noFacts noEvaluation
+no-law = record { calm = no-sound .calm; quiet = λ e. no-sound .effect; effect = no-sound .effect; when = no-sound .when; plainly = λ e. true-not-false (sym e) }
+
+-- what the answers mean
+
+-- the walk's facts hold the outcome
+pub facts-outcome : (x : ℕ) (f : Forest) (i : ℕ) → nth noFacts i (exprFacts x f) .outcome ≡ outcomeOf x f i
+unfolding fold factsAt
+facts-outcome x nil i = refl
+facts-outcome x (node k s lo hi cs others) zero = refl
+facts-outcome x (node k s lo hi cs others) (suc i) = facts-outcome x others i
+
+effect-kept : (x : ℕ) (f : Forest) → unguarded x f .effect ≡ exprDa x f 0
+unfolding unguarded fold outcomeAt
+effect-kept x nil = refl
+effect-kept x (node k s lo hi cs others) = refl
+
+module _ (x : ℕ) (f : Forest) (r : Outcome) where
+  pub outcome-told : r ≡ outcomeOf x f 0 → OutcomeTold x f r
+  outcome-told e = record { facts = facts-outcome x f 0 ∙ sym e; law = λ q. related-at noFacts noEvaluation 0 no-law (expr-laws x f q) }
+
+  pub effect-told : r ≡ unguarded x f → EffectTold x f (r .effect)
+  effect-told e =
+      let d : exprDa x f 0 ≡ r .effect = sym (rw e (effect-kept x f)) in
+      record { effect = d; law = λ q. subst (λ d. EffectLaw d (nth noEvaluation 0 (evaluations x f))) (ap (λ o. o .effect) (facts-outcome x f 0) ∙ d) (related-at noFacts noEvaluation 0 no-law (expr-laws x f q) .effect) }

@@ -1,0 +1,4 @@
+pub mod Steps
+pub mod Operands
+pub mod Laws
+pub mod Rust

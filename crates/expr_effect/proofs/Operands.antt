@@ -1,0 +1,126 @@
+-- The answers at the first row of a range, from those at its children.
+use Prim.Native.Nat.{ℕ, _+_, _-_, _*_, _≤_, _<_}
+use native.Mathlib.Omega.{arith}
+use mathlib.Core.Path.{_≡_, refl, sym, _∙_}
+use mathlib.Core.Bool.{Bool, true, false, not, true≢false}
+use mathlib.Core.List.{List}
+use Rattle.table.specs.Rows.{kindAt, sideAt, loAt, hiAt, endAt, Forest, nil, node, tree, Nested, RowEnd, NextRow}
+use Rattle.table.specs.Fold.{fold, nth}
+use Rattle.table.proofs.Tree.{tree-none, tree-some, tree-alone}
+use Rattle.table.proofs.Fold.{fold-next}
+use Rattle.kinds.specs.Named.{exprKind}
+use Rattle.reads.specs.declared.Iff.the-variants.{Skipped}
+use Rattle.reads.specs.Mentions.{refers}
+use Rattle.reads.specs.NoRef.{exprNoRef}
+use Rattle.expr_effect.specs.declared.Outcome.{Outcome}
+use Rattle.expr_effect.specs.declared.Places.{Places}
+use Rattle.expr_effect.specs.Places.{PlacesTold}
+use Rattle.expr_effect.specs.declared.Form.{Form}
+use Rattle.expr_effect.specs.declared.Form.the-variants.{Inner, LogNot, Operand, LogAnd, LogOr, Operands, Arms, CallWrites, Vetted}
+use Rattle.expr_effect.specs.Effect.{formOf, combined, guarded, isWhole, isVetted, noOutcome, outcomeAt, outcomeOf, unguarded}
+
+clash : {A : Type 0} → true ≡ false → A
+clash e = absurd (true≢false e)
+
+-- where the reference test does not decide, its answer does not matter
+unvetted : (m : Form) (n p : Bool) (a b c : Outcome) → isVetted m ≡ false → combined m n a b c ≡ combined m p a b c
+unvetted Inner n p a b c e = refl
+unvetted LogNot n p a b c e = refl
+unvetted Operand n p a b c e = refl
+unvetted LogAnd n p a b c e = refl
+unvetted LogOr n p a b c e = refl
+unvetted Operands n p a b c e = refl
+unvetted Arms n p a b c e = refl
+unvetted CallWrites n p a b c e = refl
+unvetted Vetted n p a b c e = clash e
+
+-- where the operands are not looked at, they do not matter
+unasked : (m : Form) (n : Bool) (a b c d e f : Outcome) → isWhole m ≡ true → combined m n a b c ≡ combined m n d e f
+unasked CallWrites n a b c d e f w = refl
+unasked Vetted n a b c d e f w = refl
+unasked Inner n a b c d e f w = clash (sym w)
+unasked LogNot n a b c d e f w = clash (sym w)
+unasked Operand n a b c d e f w = clash (sym w)
+unasked LogAnd n a b c d e f w = clash (sym w)
+unasked LogOr n a b c d e f w = clash (sym w)
+unasked Operands n a b c d e f w = clash (sym w)
+unasked Arms n a b c d e f w = clash (sym w)
+
+-- a form that the reference test decides is one that does not look at its operands
+part-unvetted : (m : Form) → isWhole m ≡ false → isVetted m ≡ false
+part-unvetted Inner w = refl
+part-unvetted LogNot w = refl
+part-unvetted Operand w = refl
+part-unvetted LogAnd w = refl
+part-unvetted LogOr w = refl
+part-unvetted Operands w = refl
+part-unvetted Arms w = refl
+part-unvetted CallWrites w = refl
+part-unvetted Vetted w = w
+
+not-not : (b : Bool) → not (not b) ≡ b
+not-not true = refl
+not-not false = refl
+
+-- what `whole` answers
+module _ (x : ℕ) (rows : List ℕ) (from to : ℕ) (m : Form) (v : Bool) (r none : Outcome) (pv : v ≡ isVetted m) (pn : none ≡ noOutcome) where
+  pub whole-vetted : (clear : Bool) → v ≡ true → clear ≡ exprNoRef x (tree rows from to) → r ≡ combined m (not clear) none none none → r ≡ combined m (refers Skipped x (tree rows from to)) noOutcome noOutcome noOutcome
+  whole-vetted clear q pc p = p ∙ rw (pn, pc, not-not (refers Skipped x (tree rows from to)))
+
+  pub whole-writes : v ≡ false → r ≡ combined m false none none none → r ≡ combined m (refers Skipped x (tree rows from to)) noOutcome noOutcome noOutcome
+  whole-writes q p = p ∙ rw pn (unvetted m false (refers Skipped x (tree rows from to)) noOutcome noOutcome noOutcome (sym pv ∙ q))
+
+-- no row
+pub unguarded-none : (x : ℕ) (rows : List ℕ) (from to : ℕ) (r : Outcome) → to ≤ from → r ≡ noOutcome → r ≡ unguarded x (tree rows from to)
+unfolding unguarded
+unguarded-none x rows from to r h e = e ∙ rw (tree-none rows from to h)
+
+-- a row
+module _ (x : ℕ) (rows : List ℕ) (from to : ℕ) (o : Places) (w : Bool) (r : Outcome)
+    (g : Nested rows from to) (h : from < to) (po : PlacesTold rows from to o) (pw : w ≡ isWhole (o .form)) where
+  first : unguarded x (tree rows from to)
+      ≡ combined (o .form) (refers Skipped x (tree rows from (o .end))) (outcomeOf x (tree rows (from + 1) (o .end)) 0) (outcomeOf x (tree rows (from + 1) (o .end)) 1) (outcomeOf x (tree rows (from + 1) (o .end)) 2)
+  unfolding unguarded
+  first = rw (tree-some g h, po .form, po .end, tree-alone g h)
+
+  pub unguarded-whole : w ≡ true → r ≡ combined (o .form) (refers Skipped x (tree rows from (o .end))) noOutcome noOutcome noOutcome → r ≡ unguarded x (tree rows from to)
+  unguarded-whole q p =
+      p ∙ unasked (o .form) (refers Skipped x (tree rows from (o .end))) noOutcome noOutcome noOutcome _ _ _ (sym pw ∙ q) ∙ sym first
+
+  pub unguarded-operands : (a b c : Outcome)
+      → w ≡ false
+      → a ≡ outcomeOf x (tree rows (from + 1) (o .end)) 0
+      → b ≡ outcomeOf x (tree rows (o .second) (o .end)) 0
+      → c ≡ outcomeOf x (tree rows (o .third) (o .end)) 0
+      → r ≡ combined (o .form) false a b c
+      → r ≡ unguarded x (tree rows from to)
+  unguarded-operands a b c q pa pb pc p =
+      let vb : b ≡ outcomeOf x (tree rows (from + 1) (o .end)) 1 = pb ∙ fold-next (outcomeAt x) noOutcome 0 (po .first) (po .second) in
+      let vc : c ≡ outcomeOf x (tree rows (from + 1) (o .end)) 2 =
+      pc ∙ fold-next (outcomeAt x) noOutcome 0 (po .from-second) (po .third) ∙ fold-next (outcomeAt x) noOutcome 1 (po .first) (po .second) in
+      p ∙ rw (pa, vb, vc) (unvetted (o .form) false (refers Skipped x (tree rows from (o .end))) _ _ _ (part-unvetted (o .form) (sym pw ∙ q))) ∙ sym first
+
+outcome-first : (x : ℕ) (f : Forest) → outcomeOf x f 0 ≡ guarded (unguarded x f)
+unfolding unguarded fold outcomeAt
+outcome-first x nil = refl
+outcome-first x (node k s lo hi cs others) = refl
+
+-- what `expr_writes_when` answers
+pub outcome-guarded : (x : ℕ) (rows : List ℕ) (from to : ℕ) (o r : Outcome) → o ≡ unguarded x (tree rows from to) → r ≡ guarded o → r ≡ outcomeOf x (tree rows from to) 0
+outcome-guarded x rows from to o r p q = q ∙ rw p (sym (outcome-first x (tree rows from to)))
+
+-- the operands' ranges are smaller
+module _ (rows : List ℕ) (from to : ℕ) (o : Places) (po : PlacesTold rows from to o) (u : ℕ) (pu : 2 * (to - from) ≡ u) where
+  less : (i : ℕ) → from + 1 ≤ i → 2 * (o .end - i) + 1 < u
+  less i l = omega (arith, po .after, po .within)
+
+  pub first-less : 2 * (o .end - (from + 1)) + 1 < u
+  first-less = less (from + 1) (omega arith)
+
+  pub second-less : 2 * (o .end - o .second) + 1 < u
+  second-less = less (o .second) (po .second-after)
+
+  pub third-less : 2 * (o .end - o .third) + 1 < u
+  third-less = less (o .third) (po .third-after)
+
+pub ruleset answers = (whole-vetted, whole-writes, unguarded-none, unguarded-whole, unguarded-operands, outcome-guarded, first-less, second-less, third-less)

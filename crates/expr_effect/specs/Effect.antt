@@ -1,0 +1,184 @@
+-- The effect of an expression and its writing on an outcome: da/expr_effect.rs, followed line by line. Definitions only.
+use mathlib.Core.List.{List, [], _∷_}
+use mathlib.Core.Bool.{Bool, true, false, cond, _||_, not}
+use Prim.Native.Nat.{ℕ}
+use lib.Dec.{eqb}
+use Rattle.table.specs.Rows.{Forest, nil, node}
+use Rattle.table.specs.Fold.{Alg, fold, nth}
+use Rattle.kinds.specs.declared.ExprKind.{ExprKind}
+use Rattle.kinds.specs.declared.ExprKind.the-variants.{Ident, Call, Lident, Opaque, Event, Unary, Binary, Ternary, Paren, Other}
+use Rattle.kinds.specs.Named.{exprKind}
+use Rattle.reads.specs.declared.Iff.the-variants.{Skipped}
+use Rattle.reads.specs.Mentions.{refers}
+use Rattle.reads.specs.NoRef.{isLocal}
+use Rattle.expr_effect.specs.declared.ExprDa.{ExprDa}
+use Rattle.expr_effect.specs.declared.ExprDa.the-variants.{Clean, Writes, Reads}
+use Rattle.expr_effect.specs.declared.Outcome.{Outcome}
+use Rattle.expr_effect.specs.declared.Form.{Form}
+use Rattle.expr_effect.specs.declared.Form.the-variants.{Inner, LogNot, Operand, LogAnd, LogOr, Operands, Arms, CallWrites, Vetted}
+
+-- "unary E (side 1: logical not)", "binary E E (1: &&, 2: ||)", "A call's side is its effect: 1 writes"
+unfoldable pub unaryForm : ℕ → Form
+unaryForm s = cond (eqb s 1) LogNot Operand
+
+unfoldable pub binaryForm : ℕ → Form
+binaryForm s = cond (eqb s 1) LogAnd (cond (eqb s 2) LogOr Operands)
+
+unfoldable pub callForm : ℕ → Form
+callForm s = cond (eqb s 1) CallWrites Vetted
+
+-- the arms of the match in expr_da, by kind and side
+abbrev pub formOf : ExprKind → ℕ → Form
+formOf Paren s = Inner
+formOf Unary s = unaryForm s
+formOf Binary s = binaryForm s
+formOf Ternary s = Arms
+formOf Call s = callForm s
+formOf Ident s = Vetted
+formOf Lident s = Vetted
+formOf Opaque s = Vetted
+formOf Event s = Vetted
+formOf Other s = Vetted
+
+-- "if expr_no_ref(e, name) { Clean } else { Reads }"
+abbrev pub vettedEffect : Bool → ExprDa
+vettedEffect refers = cond refers Reads Clean
+
+-- join: "Two sub-expressions BOTH evaluated, in an order IEEE does not fix"
+abbrev pub join : ExprDa → ExprDa → ExprDa
+join Reads r = Reads
+join Writes Reads = Reads
+join Writes Writes = Writes
+join Writes Clean = Writes
+join Clean Reads = Reads
+join Clean Writes = Writes
+join Clean Clean = Clean
+
+-- && and ||: the effects of the two sides, and whether the left writes where the right is reached
+abbrev pub shortCircuit : ExprDa → ExprDa → Bool → ExprDa
+shortCircuit Writes r wrote = Writes
+shortCircuit Reads r wrote = Reads
+shortCircuit Clean Writes wrote = Clean
+shortCircuit Clean Clean wrote = Clean
+shortCircuit Clean Reads wrote = cond wrote Clean Reads
+
+-- "Exactly one arm runs, so neither arm's write is guaranteed; either arm's read may happen"
+abbrev pub oneArm : ExprDa → ExprDa → ExprDa
+oneArm Reads f = Reads
+oneArm Writes Reads = Reads
+oneArm Writes Writes = Clean
+oneArm Writes Clean = Clean
+oneArm Clean Reads = Reads
+oneArm Clean Writes = Clean
+oneArm Clean Clean = Clean
+
+-- K::Ternary
+abbrev pub afterCond : ExprDa → ExprDa → ExprDa
+afterCond Writes arms = Writes
+afterCond Reads arms = Reads
+afterCond Clean arms = arms
+
+-- the writing on the outcome that is wanted
+abbrev pub writesWhen : Outcome → Bool → Bool
+writesWhen o want = cond want (o .«when_true») (o .«when_false»)
+
+-- expr_da: the match on the kind, from what the row's operands do; `refers` is the reference test of the row itself
+abbrev pub effectOf : Form → Bool → Outcome → Outcome → Outcome → ExprDa
+effectOf Inner refers a b c = a .effect
+effectOf LogNot refers a b c = a .effect
+effectOf Operand refers a b c = a .effect
+effectOf CallWrites refers a b c = Writes
+effectOf LogAnd refers a b c = shortCircuit (a .effect) (b .effect) (writesWhen a true)
+effectOf LogOr refers a b c = shortCircuit (a .effect) (b .effect) (writesWhen a false)
+effectOf Operands refers a b c = join (a .effect) (b .effect)
+effectOf Arms refers a b c = afterCond (a .effect) (oneArm (b .effect) (c .effect))
+effectOf Vetted refers a b c = vettedEffect refers
+
+-- expr_writes_when: its second match, which a clean row comes to
+abbrev pub operandsWrite : Form → Bool → Outcome → Outcome → Bool
+operandsWrite Inner want a b = writesWhen a want
+operandsWrite LogNot want a b = writesWhen a (not want)
+operandsWrite LogAnd want a b = cond want (writesWhen a true || writesWhen b true) false
+operandsWrite LogOr want a b = cond want false (writesWhen a false || writesWhen b false)
+operandsWrite Operand want a b = false
+operandsWrite Operands want a b = false
+operandsWrite Arms want a b = false
+operandsWrite CallWrites want a b = false
+operandsWrite Vetted want a b = false
+
+-- expr_writes_when: its first match, "a subtree that may READ `name` answers `false` outright"
+abbrev pub selfGuarded : ExprDa → Bool → Bool
+selfGuarded Writes wrote = true
+selfGuarded Reads wrote = false
+selfGuarded Clean wrote = wrote
+
+-- a row's effect, and what its operands write on each outcome
+abbrev pub combined : Form → Bool → Outcome → Outcome → Outcome → Outcome
+combined m refers a b c = record {
+  effect = effectOf m refers a b c;
+  «when_true» = operandsWrite m true a b;
+  «when_false» = operandsWrite m false a b;
+}
+
+-- a row's effect, and what the row writes on each outcome
+abbrev pub guarded : Outcome → Outcome
+guarded o = record {
+  effect = o .effect;
+  «when_true» = selfGuarded (o .effect) (o .«when_true»);
+  «when_false» = selfGuarded (o .effect) (o .«when_false»);
+}
+
+-- the forms whose operands are not looked at one by one, and the one that the reference test decides
+abbrev pub isVetted : Form → Bool
+isVetted Vetted = true
+isVetted CallWrites = false
+isVetted Inner = false
+isVetted LogNot = false
+isVetted Operand = false
+isVetted LogAnd = false
+isVetted LogOr = false
+isVetted Operands = false
+isVetted Arms = false
+
+abbrev pub isWhole : Form → Bool
+isWhole Vetted = true
+isWhole CallWrites = true
+isWhole Inner = false
+isWhole LogNot = false
+isWhole Operand = false
+isWhole LogAnd = false
+isWhole LogOr = false
+isWhole Operands = false
+isWhole Arms = false
+
+-- nothing evaluated
+abbrev pub noOutcome : Outcome
+noOutcome = record { effect = Clean; «when_true» = false; «when_false» = false }
+
+-- a row, from the outcomes of its children
+abbrev pub rowOutcome : ℕ → ℕ → ℕ → ℕ → ℕ → Forest → List Outcome → Outcome
+rowOutcome x k s lo hi cs os =
+    combined (formOf (exprKind k) s) (refers Skipped x (node k s lo hi cs nil)) (nth noOutcome 0 os) (nth noOutcome 1 os) (nth noOutcome 2 os)
+
+unfoldable pub outcomeAt : ℕ → Alg Outcome
+outcomeAt x k s lo hi cs os = guarded (rowOutcome x k s lo hi cs os)
+
+-- of each of these siblings: the effect and the writing on both outcomes, for the local x
+abbrev pub outcomes : ℕ → Forest → List Outcome
+outcomes x = fold (outcomeAt x)
+
+-- the sibling number i
+abbrev pub outcomeOf : ℕ → Forest → ℕ → Outcome
+outcomeOf x f i = nth noOutcome i (outcomes x f)
+
+-- expr_da and expr_writes_when, of the sibling number i
+abbrev pub exprDa : ℕ → Forest → ℕ → ExprDa
+exprDa x f i = outcomeOf x f i .effect
+
+abbrev pub exprWritesWhen : ℕ → Forest → ℕ → Bool → Bool
+exprWritesWhen x f i want = writesWhen (outcomeOf x f i) want
+
+-- the first sibling, before its own effect is looked at
+unfoldable pub unguarded : ℕ → Forest → Outcome
+unguarded x nil = noOutcome
+unguarded x (node k s lo hi cs others) = rowOutcome x k s lo hi cs (outcomes x cs)

@@ -1,0 +1,22 @@
+-- What `operands_of` tells of a row and its operands.
+use Prim.Native.Nat.{ℕ, _+_, _≤_, _<_}
+use mathlib.Core.Path.{_≡_}
+use mathlib.Core.List.{List}
+use Rattle.table.specs.Rows.{kindAt, sideAt, endAt, nextOf, Nested}
+use Rattle.kinds.specs.Named.{exprKind}
+use Rattle.expr_effect.specs.declared.Places.{Places}
+use Rattle.expr_effect.specs.Effect.{formOf}
+
+pub record PlacesTold (rows : List ℕ) (i to : ℕ) (r : Places) : Type 0 where
+  pub form : r .form ≡ formOf (exprKind (kindAt rows i)) (sideAt rows i)
+  pub end : r .end ≡ endAt rows i
+  pub after : i < r .end
+  pub within : r .end ≤ to
+  pub alone : Nested rows i (r .end)
+  pub first : Nested rows (i + 1) (r .end)
+  pub second : r .second ≡ nextOf rows (i + 1) (r .end)
+  pub second-after : i + 1 ≤ r .second
+  pub from-second : Nested rows (r .second) (r .end)
+  pub third : r .third ≡ nextOf rows (r .second) (r .end)
+  pub third-after : i + 1 ≤ r .third
+  pub from-third : Nested rows (r .third) (r .end)

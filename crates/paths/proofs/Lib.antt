@@ -1,0 +1,5 @@
+pub mod Rules
+pub mod Prefixes
+pub mod Listed
+pub mod Strength
+pub mod Steady

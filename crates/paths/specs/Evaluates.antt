@@ -1,0 +1,10 @@
+-- A triple for each way in which a row may be evaluated. An evaluation never jumps.
+use Rattle.paths.specs.Marks.{Mark}
+use Rattle.paths.specs.Triples.{Triple, at, never}
+use Rattle.paths.specs.Evaluation.{Evaluation, Truth}
+
+-- however the row is evaluated, from a mark at least `a` on: no read of what is not written, at least `b` at the end, no jump
+pub record Evaluates (a b : Mark) (e : Evaluation) : Type 0 where
+  pub value : Triple a (e .value) (at b) never
+  pub truth : (t : Truth) → Triple a (e .truth t) (at b) never
+  pub store : Triple a (e .store) (at b) never

@@ -1,0 +1,115 @@
+-- How an expression is evaluated: document 01, "How a path runs", and the clauses of IEEE 1800 that fix it. Definitions only.
+-- Nothing here is written from the Rust.
+use mathlib.Core.List.{List, [], _∷_}
+use mathlib.Core.Bool.{Bool, true, false, cond}
+use Prim.Native.Nat.{ℕ}
+use lib.Dec.{eqb}
+use Rattle.table.specs.Rows.{Forest}
+use Rattle.table.specs.Fold.{Alg, fold, nth}
+use Rattle.kinds.specs.declared.ExprKind.{ExprKind}
+use Rattle.kinds.specs.declared.ExprKind.the-variants.{Ident, Call, Lident, Opaque, Event, Unary, Binary, Ternary, Paren, Other}
+use Rattle.kinds.specs.Named.{exprKind}
+use Rattle.reads.specs.Mentions.{begins}
+use Rattle.reads.specs.NoRef.{isLocal}
+use Rattle.paths.specs.Commands.{read, write, choice, Command, skip, emit, seq, alt}
+
+-- what the truth of a condition comes out as, on a path
+pub data Truth : Type 0 where
+  is-true is-false : Truth
+
+-- the choice that a truth is: "0 false, 1 true" (document 02, Paper 6)
+abbrev pub choiceOf : Truth → ℕ
+choiceOf is-false = 0
+choiceOf is-true = 1
+
+abbrev pub opposite : Truth → Truth
+opposite is-true = is-false
+opposite is-false = is-true
+
+-- the ways in which a row may be evaluated
+pub record Evaluation : Type 0 where
+  -- where its truth is not asked
+  pub value : Command
+  -- where it is, and comes out so
+  pub truth : Truth → Command
+  -- as the target of an assignment: its selects, then the write
+  pub store : Command
+
+-- "is evaluated and then is freely true or false"
+abbrev pub free : Command → Evaluation
+free c = record { value = c; truth = λ t. seq c (emit (choice (choiceOf t))); store = c }
+
+-- &&, || and `!`: the truth comes from their operands, "Evaluated operands of &&, || and `!` always have their truth asked"
+abbrev pub asked : (Truth → Command) → Evaluation
+asked f = record { value = alt (f is-true) (f is-false); truth = f; store = alt (f is-true) (f is-false) }
+
+-- "&& is false after a false left; otherwise, and only then, the right is evaluated and gives the truth" (11.3.5, 11.4.7)
+abbrev pub both : Evaluation → Evaluation → Truth → Command
+both l r is-true = seq (l .truth is-true) (r .truth is-true)
+both l r is-false = alt (l .truth is-false) (seq (l .truth is-true) (r .truth is-false))
+
+-- "|| is true after a true left; otherwise, and only then, the right is evaluated and gives the truth" (11.3.5, 11.4.7)
+abbrev pub either : Evaluation → Evaluation → Truth → Command
+either l r is-true = alt (l .truth is-true) (seq (l .truth is-false) (r .truth is-true))
+either l r is-false = seq (l .truth is-false) (r .truth is-false)
+
+-- "A conditional expression evaluates its condition and one arm" (11.4.11)
+abbrev pub conditional : Evaluation → Evaluation → Evaluation → Command
+conditional c a b = alt (seq (c .truth is-true) (a .value)) (seq (c .truth is-false) (b .value))
+
+-- "everything else evaluates its children in row order" (11.3, 11.4.12 and 11.5 fix no other order)
+abbrev pub inOrder : List Evaluation → Command
+inOrder [] = skip
+inOrder (e ∷ es) = seq (e .value) (inOrder es)
+
+abbrev pub readIf : Bool → Command
+readIf true = emit read
+readIf false = skip
+
+abbrev pub writeIf : Bool → Command
+writeIf true = emit write
+writeIf false = skip
+
+-- "then the write if the target is the plain local"; a select of it, or a longer path, is neither read nor written (10.4)
+abbrev pub target : Bool → Evaluation
+target plain = record { value = skip; truth = free skip .truth; store = writeIf plain }
+
+-- what stands where a child is missing
+abbrev pub noEvaluation : Evaluation
+noEvaluation = free skip
+
+-- `!` flips (11.4.7); every other unary operator evaluates its operand (11.4.9)
+abbrev pub unary : ℕ → List Evaluation → Evaluation
+unary s es = cond (eqb s 1) (asked (λ t. nth noEvaluation 0 es .truth (opposite t))) (free (nth noEvaluation 0 es .value))
+
+-- side 1 is &&, 2 is ||; every other binary operator evaluates both operands
+abbrev pub binary : ℕ → List Evaluation → Evaluation
+binary s es =
+    cond (eqb s 1) (asked (both (nth noEvaluation 0 es) (nth noEvaluation 1 es)))
+    (cond (eqb s 2) (asked (either (nth noEvaluation 0 es) (nth noEvaluation 1 es)))
+    (free (seq (nth noEvaluation 0 es .value) (nth noEvaluation 1 es .value))))
+
+-- "A call with side 1 writes the whole local"; "A call path beginning with the local reads unless side is 1" (13.4, 13.5)
+abbrev pub call : Bool → ℕ → List Evaluation → Evaluation
+call headed s es = cond (eqb s 1) (free (emit write)) (free (seq (readIf headed) (inOrder es)))
+
+-- a row from its kind, side, children and the children's evaluations: "An ident whose first segment is the local reads; so
+-- does opaque"; "paren passes"
+abbrev pub evaluationOf : ℕ → ExprKind → ℕ → Forest → List Evaluation → Evaluation
+evaluationOf x Ident s cs es = free (readIf (begins x cs))
+evaluationOf x Opaque s cs es = free (emit read)
+evaluationOf x Unary s cs es = unary s es
+evaluationOf x Binary s cs es = binary s es
+evaluationOf x Ternary s cs es = free (conditional (nth noEvaluation 0 es) (nth noEvaluation 1 es) (nth noEvaluation 2 es))
+evaluationOf x Call s cs es = call (begins x cs) s es
+evaluationOf x Paren s cs es = nth noEvaluation 0 es
+evaluationOf x Lident s cs es = target (isLocal x cs)
+evaluationOf x Event s cs es = free (inOrder es)
+evaluationOf x Other s cs es = free (inOrder es)
+
+unfoldable pub evaluationAt : ℕ → Alg Evaluation
+evaluationAt x k s lo hi cs es = evaluationOf x (exprKind k) s cs es
+
+-- the evaluation of each of these siblings, for the local x
+abbrev pub evaluations : ℕ → Forest → List Evaluation
+evaluations x = fold (evaluationAt x)

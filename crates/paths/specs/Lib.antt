@@ -1,0 +1,5 @@
+pub mod Marks
+pub mod Commands
+pub mod Triples
+pub mod Evaluation
+pub mod Evaluates

@@ -1,0 +1,62 @@
+-- What is known to be written of the local. Only this file knows what a mark is; everything else cites its laws.
+use mathlib.Core.Path.{_≡_, refl}
+use mathlib.Core.Bool.{Bool, true, false}
+use lib.Dec.{T}
+
+-- all of the local, or nothing that is known: "all writes whole"
+pub Mark : Type 0
+Mark = Bool
+
+pub full : Mark
+unfolding Mark
+full = true
+
+pub none : Mark
+unfolding Mark
+none = false
+
+-- whether all of the local is written
+pub isFull : Mark → Bool
+unfolding Mark
+isFull a = a
+
+-- what `a` says is written, `b` says too
+infix 40 _⊑_
+pub record _⊑_ (a b : Mark) : Type 0 where
+  pub keeps : T (isFull a) → T (isFull b)
+
+pub full-is-full : isFull full ≡ true
+unfolding isFull full
+full-is-full = refl
+
+pub none-is-not : isFull none ≡ false
+unfolding isFull none
+none-is-not = refl
+
+pub ⊑-refl : {a : Mark} → a ⊑ a
+⊑-refl = record { keeps = λ h. h }
+
+pub ⊑-trans : {a b c : Mark} → a ⊑ b → b ⊑ c → a ⊑ c
+⊑-trans p q = record { keeps = λ h. q .keeps (p .keeps h) }
+
+pub ⊑-full : {a : Mark} → a ⊑ full
+unfolding isFull full
+⊑-full = record { keeps = λ h. tt }
+
+pub none-⊑ : {a : Mark} → none ⊑ a
+unfolding isFull none
+none-⊑ = record { keeps = λ h. absurd h }
+
+-- what is at least full is full
+pub full-only : {a : Mark} → full ⊑ a → isFull a ≡ true
+unfolding isFull full
+full-only {a} p = go (isFull a) (p .keeps tt)
+  where
+    go : (b : Bool) → T b → b ≡ true
+    go true h = refl
+    go false h = absurd h
+
+-- nothing written is not all written
+pub none-not-full : full ⊑ none → ⊥
+unfolding isFull full none
+none-not-full p = p .keeps tt

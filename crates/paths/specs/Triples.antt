@@ -1,0 +1,43 @@
+-- Triples: what a command keeps to on each of its runs. Definitions only; the rules are in proofs/Rules.
+use mathlib.Core.List.{List, [], _∷_}
+use Rattle.paths.specs.Marks.{Mark, full, _⊑_}
+use Rattle.paths.specs.Commands.{PathEvent, read, write, outside, choice, Ending, falls, stops, leaves, again, Command, Runs}
+
+-- "every read of the local on its path has a whole write before it": an event, where this much is written
+abbrev pub Fine : PathEvent → Mark → Type 0
+Fine read w = full ⊑ w
+Fine outside w = full ⊑ w
+Fine write w = Unit
+Fine (choice n) w = Unit
+
+-- what is written after an event
+abbrev pub after : PathEvent → Mark → Mark
+after read w = w
+after outside w = w
+after write w = full
+after (choice n) w = w
+
+-- every event of the list is fine, from w on, and P is true of what is written at its end
+abbrev pub Good : List PathEvent → (Mark → Type 0) → Mark → Type 0
+Good [] P w = P w
+Good (e ∷ t) P w = Fine e w × Good t P (after e w)
+
+-- what is claimed where control goes on: that so much is written there, or that it never goes there
+pub data Claim : Type 0 where
+  at : Mark → Claim
+  never : Claim
+
+abbrev pub Holds : Claim → Mark → Type 0
+Holds (at b) w = b ⊑ w
+Holds never w = ⊥
+
+-- the claims at an ending: one for what stands next, one for loop jumps
+abbrev pub Ends : Claim → Claim → Ending → Mark → Type 0
+Ends next jump falls w = Holds next w
+Ends next jump stops w = Unit
+Ends next jump leaves w = Holds jump w
+Ends next jump again w = Holds jump w
+
+-- from any mark at least `a`, every run of `c` is fine and ends as claimed
+pub record Triple (a : Mark) (c : Command) (next jump : Claim) : Type 0 where
+  pub go : (w : Mark) → a ⊑ w → (t : List PathEvent) (o : Ending) → Runs c t o → Good t (Ends next jump o) w

@@ -1,0 +1,1 @@
+// What IEEE 1800 says of evaluation, as definitions and laws; nothing here runs.

@@ -1,0 +1,204 @@
+// The reference test: one flat pass over the rows of a range, and its uses by their names in da/reads.rs.
+use kinds::ExprKind;
+ghost use mathlib.Core.Path.{_≡_};
+ghost use Prim.Native.Nat.{_+_, _*_, _<_};
+ghost use lib.ListN.{length};
+ghost use Rattle.kinds.specs.Named.{exprKind};
+ghost use Rattle.table.specs.Rows.{Nested, tree, kindAt, endAt};
+ghost use Rattle.reads.specs.Mentions.{begins, mentions, passesIff, mentionIn, MentionTold};
+ghost use Rattle.reads.specs.NoRef.{exprNoRef, lvalueNoRef, sensitivityNoRef, intraEventNoRef, stmtNoRef, vetted, two-segments, segments as segmentsOf};
+
+// Whether the iff of an event is looked at.
+pub enum Iff {
+    Skipped,
+    Held,
+}
+
+// Where the first mention of the local is.
+pub enum Mention {
+    At(usize),
+    Nowhere,
+}
+
+// Whether the first of the rows from `from` up to `to` is a path that begins with the local.
+pub fn begins_with(rows: &[u32], local: usize, from: usize, to: usize) -> bool
+    requires { ⌜ Nested (now rows) from to ⌝ }
+    ensures { λ r. ⌜ r ≡ begins local (tree (now (rows .entry)) from to) ⌝ }
+{
+    if to <= from {
+        return false;
+    }
+    let end = table::row_end(rows, from, to);
+    let segment = from + 1;
+    if segment < end {
+        return table::side_at(rows, segment) == local;
+    }
+    false
+}
+
+// Whether row i, the first of the rows i up to `to`, is itself a mention.
+fn is_mention(rows: &[u32], local: usize, i: usize, to: usize) -> bool
+    requires { ⌜ (Nested (now rows) i to) × (i < to) ⌝ }
+    ensures { λ r. ⌜ r ≡ mentions local (exprKind (kindAt (now (rows .entry)) i)) (tree (now (rows .entry)) (i + 1) (endAt (now (rows .entry)) i)) ⌝ }
+{
+    let kind = kinds::expr_kind(table::kind_at(rows, i));
+    let end = table::row_end(rows, i, to);
+    match kind {
+        ExprKind::Ident => begins_with(rows, local, i + 1, end),
+        ExprKind::Call => begins_with(rows, local, i + 1, end),
+        ExprKind::Lident => begins_with(rows, local, i + 1, end),
+        ExprKind::Opaque => true,
+        ExprKind::Event => false,
+        ExprKind::Unary => false,
+        ExprKind::Binary => false,
+        ExprKind::Ternary => false,
+        ExprKind::Paren => false,
+        ExprKind::Other => false,
+    }
+}
+
+// Whether row i is an event whose iff the pass leaves out.
+fn passes_iff(rows: &[u32], iff: Iff, i: usize) -> bool
+    requires { ⌜ 5 * i + 4 < length (now rows) ⌝ }
+    ensures { λ r. ⌜ r ≡ passesIff iff (exprKind (kindAt (now (rows .entry)) i)) ⌝ }
+{
+    let Iff::Skipped = iff else {
+        return false;
+    };
+    let kind = kinds::expr_kind(table::kind_at(rows, i));
+    match kind {
+        ExprKind::Event => true,
+        ExprKind::Ident => false,
+        ExprKind::Call => false,
+        ExprKind::Lident => false,
+        ExprKind::Opaque => false,
+        ExprKind::Unary => false,
+        ExprKind::Binary => false,
+        ExprKind::Ternary => false,
+        ExprKind::Paren => false,
+        ExprKind::Other => false,
+    }
+}
+
+// The first mention among the rows from `from` up to `to`, in row order. At an event whose iff is skipped the pass looks at
+// the event's expression and goes on after the event.
+pub fn first_mention(rows: &[u32], iff: Iff, local: usize, from: usize, to: usize) -> Mention
+    requires { ⌜ Nested (now rows) from to ⌝ }
+    ensures { λ r. ⌜ r ≡ mentionIn iff local (now (rows .entry)) from to ⌝ }
+    ensures means { λ r. ⌜ MentionTold iff local (now (rows .entry)) from to r ⌝ }
+{
+    let mut i = from;
+    while i < to {
+        if passes_iff(rows, iff, i) {
+            let end = table::row_end(rows, i, to);
+            let next = table::next_at(rows, i + 1, end);
+            let found = first_mention(rows, iff, local, i + 1, next);
+            let Mention::Nowhere = found else {
+                return found;
+            };
+            i = end;
+        } else {
+            if is_mention(rows, local, i, to) {
+                return Mention::At(i);
+            }
+            i += 1;
+        }
+    }
+    Mention::Nowhere
+}
+
+// Whether no row from `from` up to `to` refers to the local.
+fn no_ref(rows: &[u32], local: usize, from: usize, to: usize) -> bool
+    requires { ⌜ Nested (now rows) from to ⌝ }
+    ensures { λ r. ⌜ r ≡ exprNoRef local (tree (now (rows .entry)) from to) ⌝ }
+{
+    match first_mention(rows, Iff::Skipped, local, from, to) {
+        Mention::At(_) => false,
+        Mention::Nowhere => true,
+    }
+}
+
+// expr_no_ref, of an expression or of each of a list of them.
+pub fn expr_no_ref(rows: &[u32], local: usize, from: usize, to: usize) -> bool
+    requires { ⌜ Nested (now rows) from to ⌝ }
+    ensures { λ r. ⌜ r ≡ exprNoRef local (tree (now (rows .entry)) from to) ⌝ }
+{
+    no_ref(rows, local, from, to)
+}
+
+// lvalue_no_ref: the target, and the expressions of its selects.
+pub fn lvalue_no_ref(rows: &[u32], local: usize, from: usize, to: usize) -> bool
+    requires { ⌜ Nested (now rows) from to ⌝ }
+    ensures { λ r. ⌜ r ≡ lvalueNoRef local (tree (now (rows .entry)) from to) ⌝ }
+{
+    no_ref(rows, local, from, to)
+}
+
+// sensitivity_no_ref: a star names nothing, and of an event its expression counts, not its iff.
+pub fn sensitivity_no_ref(rows: &[u32], local: usize, from: usize, to: usize) -> bool
+    requires { ⌜ Nested (now rows) from to ⌝ }
+    ensures { λ r. ⌜ r ≡ sensitivityNoRef local (tree (now (rows .entry)) from to) ⌝ }
+{
+    no_ref(rows, local, from, to)
+}
+
+// intra_event_no_ref: the repeat count, where there is one, and the sensitivity.
+pub fn intra_event_no_ref(rows: &[u32], local: usize, from: usize, to: usize) -> bool
+    requires { ⌜ Nested (now rows) from to ⌝ }
+    ensures { λ r. ⌜ r ≡ intraEventNoRef local (tree (now (rows .entry)) from to) ⌝ }
+{
+    no_ref(rows, local, from, to)
+}
+
+// How many segments the path has that is the first of the rows from `from` up to `to`; 0 where there is none.
+pub fn segments(rows: &[u32], from: usize, to: usize) -> usize
+    requires { ⌜ Nested (now rows) from to ⌝ }
+    ensures { λ r. ⌜ r ≡ segmentsOf (tree (now (rows .entry)) from to) ⌝ }
+{
+    if to <= from {
+        return 0;
+    }
+    let end = table::row_end(rows, from, to);
+    let mut i = from + 1;
+    let mut counted = 0;
+    while i < end {
+        i = table::row_end(rows, i, end);
+        counted += 1;
+    }
+    counted
+}
+
+// stmt_no_ref's arm of a task, over its children: a path of two segments that does not begin with the local, and arguments.
+fn task_no_ref(rows: &[u32], local: usize, from: usize, to: usize) -> bool
+    requires { ⌜ Nested (now rows) from to ⌝ }
+    ensures { λ r. ⌜ r ≡ vetted two-segments local (tree (now (rows .entry)) from to) ⌝ }
+{
+    if segments(rows, from, to) != 2 {
+        return false;
+    }
+    if begins_with(rows, local, from, to) {
+        return false;
+    }
+    no_ref(rows, local, from, to)
+}
+
+// stmt_no_ref, of the first of the rows from `from` up to `to`: a null statement, an assignment or a system task by all that
+// it holds, a task. No other form is vetted.
+pub fn stmt_no_ref(rows: &[u32], local: usize, from: usize, to: usize) -> bool
+    requires { ⌜ Nested (now rows) from to ⌝ }
+    ensures { λ r. ⌜ r ≡ stmtNoRef local (tree (now (rows .entry)) from to) ⌝ }
+{
+    if to <= from {
+        return false;
+    }
+    let kind = table::kind_at(rows, from);
+    let end = table::row_end(rows, from, to);
+    match kind {
+        38 => true, // null
+        11 => no_ref(rows, local, from + 1, end), // blocking
+        12 => no_ref(rows, local, from + 1, end), // nonblocking
+        22 => no_ref(rows, local, from + 1, end), // systask
+        23 => task_no_ref(rows, local, from + 1, end), // task
+        _ => false,
+    }
+}
