@@ -4,19 +4,13 @@ use mathlib.Core.Bool.{cond}
 use mathlib.Core.List.{List}
 use lib.Dec.{eqb, leb}
 use lib.ListN.{length, set}
-use Rattle.kinds.specs.declared.Found.{Found}
-use Rattle.kinds.specs.declared.Found.the-variants.{Is, Unknown}
 use Rattle.kinds.specs.Words.{kindOf}
+use Rattle.kinds.specs.Named.{numberOf}
 use Rattle.case_text.specs.Texts.{spelled}
-
--- a kind's number, 66 for none
-unfoldable pub kindNumber : Found → ℕ
-kindNumber (Is k) = k
-kindNumber Unknown = 66
 
 -- the kind of a word or, where it is no kind's, of a number
 unfoldable pub kindField : List ℕ → ℕ
-kindField text = cond (eqb (kindNumber (kindOf text)) 66) (spelled 0 text % 4294967296) (kindNumber (kindOf text))
+kindField text = cond (eqb (numberOf (kindOf text)) 66) (spelled 0 text % 4294967296) (numberOf (kindOf text))
 
 -- the five numbers of row i set, a row that the table lacks left out; lo and hi are free
 unfoldable pub setRow : List ℕ → ℕ → ℕ → ℕ → ℕ → List ℕ

@@ -12,12 +12,12 @@ use Rattle.kinds.specs.declared.ExprKind.{ExprKind}
 use Rattle.kinds.specs.declared.ExprKind.the-variants.{Ident, Call, Lident, Opaque, Event, Unary, Binary, Ternary, Paren, Other}
 use Rattle.kinds.specs.Named.{exprKind}
 use Rattle.kinds.proofs.Below.{true-not-false}
-use Rattle.reads.specs.declared.Iff.the-variants.{Skipped, Held}
+use Rattle.reads.specs.declared.Iff.the-variants.{Skipped}
 use Rattle.reads.specs.Mentions.{refers}
 use Rattle.reads.specs.NoRef.{isLocal, iffQuiet}
 use Rattle.reads.proofs.Trees.{quiet-children, quiet-others, quiet-alone, refers-quiet}
-use Rattle.paths.specs.Marks.{Mark, full, none}
-use Rattle.paths.specs.Commands.{Command, write, emit, seq}
+use Rattle.paths.specs.Marks.{full, none}
+use Rattle.paths.specs.Commands.{write, emit, seq}
 use Rattle.paths.specs.Triples.{Triple, at, never}
 use Rattle.paths.specs.Evaluation.{Evaluation, Truth, is-true, is-false, opposite, free, asked, both, either, conditional, writeIf, noEvaluation, evaluationOf, evaluationAt, evaluations}
 use Rattle.paths.specs.Evaluates.{Evaluates}
@@ -28,8 +28,8 @@ use Rattle.expr_effect.specs.declared.ExprDa.the-variants.{Clean, Writes
 use Rattle.expr_effect.specs.declared.Outcome.{Outcome}
 use Rattle.expr_effect.specs.declared.Form.{Form}
 use Rattle.expr_effect.specs.declared.Form.the-variants.{Inner, LogNot, Operand, LogAnd, LogOr, Operands, Arms, CallWrites, Vetted}
-use Rattle.expr_effect.specs.Effect.{unaryForm, binaryForm, callForm, formOf, join, shortCircuit, oneArm, afterCond, writesWhen, effectOf, operandsWrite, selfGuarded, combined, guarded, noOutcome, rowOutcome, outcomeAt, outcomes, outcomeOf, exprDa, unguarded}
-use Rattle.expr_effect.specs.Law.{EffectLaw, Meets, WhenLaw, isPlain, ExprFacts, factsAt, exprFacts, noFacts, ExprLaw, OutcomeTold, EffectTold}
+use Rattle.expr_effect.specs.Effect.{unaryForm, binaryForm, callForm, formOf, join, shortCircuit, oneArm, afterCond, writesWhen, effectOf, operandsWrite, selfGuarded, combined, guarded, noOutcome, outcomeAt, outcomes, outcomeOf, exprDa, unguarded}
+use Rattle.expr_effect.specs.Law.{EffectLaw, Meets, WhenLaw, isPlain, factsAt, exprFacts, noFacts, ExprLaw, OutcomeTold, EffectTold}
 
 -- what the effect and the writing on an outcome say of an evaluation
 pub record Sound (o : Outcome) (e : Evaluation) : Type 0 where

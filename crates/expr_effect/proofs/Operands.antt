@@ -4,11 +4,10 @@ use native.Mathlib.Omega.{arith}
 use mathlib.Core.Path.{_≡_, refl, sym, _∙_}
 use mathlib.Core.Bool.{Bool, true, false, not, true≢false}
 use mathlib.Core.List.{List}
-use Rattle.table.specs.Rows.{kindAt, sideAt, loAt, hiAt, endAt, Forest, nil, node, tree, Nested, RowEnd, NextRow}
-use Rattle.table.specs.Fold.{fold, nth}
+use Rattle.table.specs.Rows.{Forest, nil, node, tree, Nested}
+use Rattle.table.specs.Fold.{fold}
 use Rattle.table.proofs.Tree.{tree-none, tree-some, tree-alone}
 use Rattle.table.proofs.Fold.{fold-next}
-use Rattle.kinds.specs.Named.{exprKind}
 use Rattle.reads.specs.declared.Iff.the-variants.{Skipped}
 use Rattle.reads.specs.Mentions.{refers}
 use Rattle.reads.specs.NoRef.{exprNoRef}
@@ -17,7 +16,7 @@ use Rattle.expr_effect.specs.declared.Places.{Places}
 use Rattle.expr_effect.specs.Places.{PlacesTold}
 use Rattle.expr_effect.specs.declared.Form.{Form}
 use Rattle.expr_effect.specs.declared.Form.the-variants.{Inner, LogNot, Operand, LogAnd, LogOr, Operands, Arms, CallWrites, Vetted}
-use Rattle.expr_effect.specs.Effect.{formOf, combined, guarded, isWhole, isVetted, noOutcome, outcomeAt, outcomeOf, unguarded}
+use Rattle.expr_effect.specs.Effect.{combined, guarded, isWhole, isVetted, noOutcome, outcomeAt, outcomeOf, unguarded}
 
 clash : {A : Type 0} → true ≡ false → A
 clash e = absurd (true≢false e)

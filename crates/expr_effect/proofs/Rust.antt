@@ -4,21 +4,19 @@ use Prim.Native.Nat.{ℕ}
 use mathlib.Core.Path.{_≡_, refl}
 use mathlib.Core.Bool.{Bool, true, false, cond, _||_, not}
 use lib.Dec.{eqb}
-use borrow.Author.Tests.{eq-eqb, ne-eqb}
+use borrow.Author.Tests.{ne-eqb}
 use Rattle.table.specs.Rows.{Forest, nil, node}
 use Rattle.table.specs.Fold.{fold}
-use Rattle.kinds.specs.declared.ExprKind.{ExprKind}
-use Rattle.kinds.specs.declared.ExprKind.the-variants.{Ident, Call, Lident, Opaque, Event, Unary, Binary, Ternary, Paren, Other}
+use Rattle.kinds.specs.declared.ExprKind.the-variants.{Call, Unary, Binary, Ternary, Paren}
 use Rattle.kinds.specs.Named.{exprKind}
 use Rattle.reads.specs.declared.Iff.the-variants.{Skipped}
 use Rattle.reads.specs.Mentions.{refers}
 use Rattle.reads.specs.NoRef.{exprNoRef}
-use Rattle.expr_effect.specs.declared.ExprDa.{ExprDa}
 use Rattle.expr_effect.specs.declared.ExprDa.the-variants.{Clean, Writes, Reads}
 use Rattle.expr_effect.specs.declared.Outcome.{Outcome}
 use Rattle.expr_effect.specs.declared.Form.{Form}
 use Rattle.expr_effect.specs.declared.Form.the-variants.{Inner, LogNot, Operand, LogAnd, LogOr, Operands, Arms, CallWrites, Vetted}
-use Rattle.expr_effect.specs.Effect.{unaryForm, binaryForm, callForm, formOf, join, shortCircuit, oneArm, afterCond, writesWhen, effectOf, operandsWrite, selfGuarded, vettedEffect, outcomeAt, outcomeOf, exprDa, exprWritesWhen}
+use Rattle.expr_effect.specs.Effect.{unaryForm, binaryForm, callForm, formOf, join, shortCircuit, oneArm, afterCond, effectOf, operandsWrite, selfGuarded, vettedEffect, outcomeAt, outcomeOf, exprDa, exprWritesWhen}
 
 vetted : (b : Bool) → vettedEffect b ≡ cond (not b) Clean Reads
 vetted true = refl

@@ -1,8 +1,8 @@
 -- What each function of the code answers, arm by arm.
 use Prim.Native.Nat.{ℕ}
-use mathlib.Core.Path.{_≡_, refl}
+use mathlib.Core.Path.{_≡_}
 use mathlib.Core.Bool.{Bool, true, false, _||_}
-use borrow.Author.Tests.{eq-eqb, ne-eqb}
+use borrow.Author.Tests.{ne-eqb}
 use Rattle.kinds.specs.declared.ExprKind.{ExprKind}
 use Rattle.kinds.specs.declared.ExprKind.the-variants.{Call, Unary, Binary}
 use Rattle.kinds.specs.Named.{exprKind}
@@ -11,7 +11,7 @@ use Rattle.expr_effect.specs.declared.ExprDa.the-variants.{Clean, Writes
 use Rattle.expr_effect.specs.declared.Outcome.{Outcome}
 use Rattle.expr_effect.specs.declared.Form.{Form}
 use Rattle.expr_effect.specs.declared.Form.the-variants.{Inner, LogNot, Operand, LogAnd, LogOr, Operands, Arms, CallWrites, Vetted}
-use Rattle.expr_effect.specs.Effect.{unaryForm, binaryForm, callForm, formOf, vettedEffect, join, shortCircuit, oneArm, afterCond, effectOf, operandsWrite, combined, guarded}
+use Rattle.expr_effect.specs.Effect.{unaryForm, binaryForm, callForm, formOf, vettedEffect, join, shortCircuit, oneArm, afterCond, effectOf, operandsWrite, guarded}
 
 -- forms by side
 module _ (s : ℕ) where

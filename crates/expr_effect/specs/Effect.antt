@@ -1,5 +1,5 @@
 -- The effect of an expression and its writing on an outcome: da/expr_effect.rs, followed line by line. Definitions only.
-use mathlib.Core.List.{List, [], _∷_}
+use mathlib.Core.List.{List}
 use mathlib.Core.Bool.{Bool, true, false, cond, _||_, not}
 use Prim.Native.Nat.{ℕ}
 use lib.Dec.{eqb}
@@ -10,7 +10,6 @@ use Rattle.kinds.specs.declared.ExprKind.the-variants.{Ident, Call, Lident, Opa
 use Rattle.kinds.specs.Named.{exprKind}
 use Rattle.reads.specs.declared.Iff.the-variants.{Skipped}
 use Rattle.reads.specs.Mentions.{refers}
-use Rattle.reads.specs.NoRef.{isLocal}
 use Rattle.expr_effect.specs.declared.ExprDa.{ExprDa}
 use Rattle.expr_effect.specs.declared.ExprDa.the-variants.{Clean, Writes, Reads}
 use Rattle.expr_effect.specs.declared.Outcome.{Outcome}

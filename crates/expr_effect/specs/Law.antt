@@ -12,7 +12,7 @@ use Rattle.kinds.specs.Named.{exprKind}
 use Rattle.reads.specs.declared.Iff.the-variants.{Skipped}
 use Rattle.reads.specs.Mentions.{refers as refersIn}
 use Rattle.reads.specs.NoRef.{isLocal, iffQuiet}
-use Rattle.paths.specs.Marks.{Mark, full, none}
+use Rattle.paths.specs.Marks.{full, none}
 use Rattle.paths.specs.Commands.{Command}
 use Rattle.paths.specs.Triples.{Triple, at, never}
 use Rattle.paths.specs.Evaluation.{Evaluation, Truth, is-true, is-false, noEvaluation, evaluations}

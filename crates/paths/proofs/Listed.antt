@@ -1,7 +1,11 @@
 -- The complete runs of a command, listed: what a theorem about all runs cannot notice is missing, a list of runs shows.
+use mathlib.Core.Path.{_≡_, refl, sym, subst}
+use mathlib.Core.Bool.{Bool, true, false, _&&_}
 use mathlib.Core.List.{List, [], _∷_, _++_, map}
+use native.Mathlib.Omega.{arith}
+use Rattle.kinds.proofs.Below.{both-true, true-not-false}
 use Prim.Native.Nat.{ℕ, zero, suc}
-use Rattle.paths.specs.Commands.{PathEvent, Ending, falls, stops, leaves, again, Command, skip, emit, exit, seq, alt, star, catch, caught, Runs, run-skip, run-emit, run-exit, run-seq, run-off, run-left, run-right, run-none, run-more, run-catch}
+use Rattle.paths.specs.Commands.{PathEvent, Ending, falls, stops, leaves, again, Command, skip, emit, exit, seq, alt, star, catch, caught, Elsewhere, Runs, run-stop, run-skip, run-emit, run-emit-stop, run-exit, run-seq, run-off, run-left, run-right, run-none, run-more, run-catch}
 
 -- what happens, and how it ends
 abbrev pub Run : Type 0
@@ -91,3 +95,58 @@ listed-run n (alt c d) =
     (each-imply (IsRun d) (IsRun (alt c d)) (λ r. run-right) (listed n d) (listed-run n d))
 listed-run n (star c) = rounds-run c n (listed n c) (listed-run n c)
 listed-run n (catch j c) = each-map (IsRun c) (IsRun (catch j c)) (λ r. (r .0, caught j (r .1))) (λ r. run-catch) (listed n c) (listed-run n c)
+
+-- Each run is listed
+
+-- commands without loops and jumps, which evaluations are
+unfoldable pub straight : Command → Bool
+straight skip = true
+straight (emit e) = true
+straight (seq c d) = straight c && straight d
+straight (alt c d) = straight c && straight d
+straight (exit o) = false
+straight (star c) = false
+straight (catch j c) = false
+
+pub data Among {A : Type 0} (a : A) : List A → Type 0 where
+  at-first : {xs : List A} → Among a (a ∷ xs)
+  at-later : {x : A} {xs : List A} → Among a xs → Among a (x ∷ xs)
+
+module _ {A : Type 0} {a : A} where
+  among-left : {xs : List A} (ys : List A) → Among a xs → Among a (xs ++ ys)
+  among-left ys at-first = at-first
+  among-left ys (at-later h) = at-later (among-left ys h)
+
+  among-right : (xs : List A) {ys : List A} → Among a ys → Among a (xs ++ ys)
+  among-right [] h = h
+  among-right (x ∷ xs) h = at-later (among-right xs h)
+
+  among-map : {B : Type 0} (g : A → B) {xs : List A} → Among a xs → Among (g a) (map g xs)
+  among-map g at-first = at-first
+  among-map g (at-later h) = at-later (among-map g h)
+
+among-followed : (s t : List PathEvent) {rs next : List Run} → Among (s, falls) rs → Among (t, falls) next → Among (s ++ t, falls) (eachFollowed rs next)
+unfolding eachFollowed followed
+among-followed s t {next = next} (at-first {xs = rs}) k = among-left (eachFollowed rs next) (among-map (λ r. (s ++ r .0, r .1)) k)
+among-followed s t {next = next} (at-later {x = r} h) k = among-right (followed (r .0) (r .1) next) (among-followed s t h k)
+
+all-by : (n : ℕ) (c : Command) (t : List PathEvent) (o : Ending) → o ≡ falls → straight c ≡ true → Runs c t o → Among (t, falls) (listed n c)
+unfolding listed straight
+all-by n c _ _ e q run-stop = let z : _≡_ {A = ℕ} 0 1 = cc in absurd (omega arith)
+all-by n _ _ _ e q run-skip = at-first
+all-by n _ _ _ e q run-emit = at-first
+all-by n _ _ _ e q run-emit-stop = let z : _≡_ {A = ℕ} 0 1 = cc in absurd (omega arith)
+all-by n _ _ _ e q run-exit = true-not-false (sym q)
+all-by n _ _ _ e q (run-seq {c = c} {d = d} {s = s} {t = t} {o = o} x y) =
+    let b = both-true (straight c) (straight d) q in
+    among-followed s t (all-by n c s falls refl (b .0) x) (all-by n d t o e (b .1) y)
+all-by n _ _ _ e q (run-off {c = c} {s = s} {o = o} i x) = absurd (subst Elsewhere e i)
+all-by n _ _ _ e q (run-left {c = c} {d = d} {s = s} {o = o} x) = among-left (listed n d) (all-by n c s o e (both-true (straight c) (straight d) q .0) x)
+all-by n _ _ _ e q (run-right {c = c} {d = d} {s = s} {o = o} x) = among-right (listed n c) (all-by n d s o e (both-true (straight c) (straight d) q .1) x)
+all-by n _ _ _ e q run-none = true-not-false (sym q)
+all-by n _ _ _ e q (run-more x) = true-not-false (sym q)
+all-by n _ _ _ e q (run-catch x) = true-not-false (sym q)
+
+-- every run to the end of such a command is listed
+pub all-listed : (n : ℕ) (c : Command) (t : List PathEvent) → straight c ≡ true → Runs c t falls → Among (t, falls) (listed n c)
+all-listed n c t q x = all-by n c t falls refl q x

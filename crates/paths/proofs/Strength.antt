@@ -1,6 +1,7 @@
 -- Which evaluations must exist. A theorem about all runs is true of too few runs as well, so each sentence of document 01,
 -- "How a path runs", on expressions and targets has small rows here with the complete list of their runs.
 use mathlib.Core.Path.{_≡_, refl, ap, subst}
+use mathlib.Core.Bool.{true, false}
 use mathlib.Core.List.{List, [], _∷_, _++_, map}
 use Prim.Native.Nat.{ℕ}
 use Prim.Native.String.{String}
@@ -12,10 +13,10 @@ use Rattle.kinds.specs.Words.{same, placeFrom, kindOf}
 use Rattle.kinds.specs.Named.{numberOf, numbered, exprKind}
 use Rattle.reads.specs.Mentions.{names, begins}
 use Rattle.reads.specs.NoRef.{count, segments, isLocal}
-use Rattle.paths.specs.Commands.{PathEvent, read, write, choice, falls, stops, Command}
+use Rattle.paths.specs.Commands.{PathEvent, read, write, choice, falls, stops, Command, Runs}
 use Rattle.paths.specs.Evaluation.{Truth, is-true, is-false, Evaluation, noEvaluation, evaluationAt, evaluations}
 use Rattle.paths.proofs.Prefixes.{prefix}
-use Rattle.paths.proofs.Listed.{Run, IsRun, Each, followed, eachFollowed, listed, each-map, listed-run}
+use Rattle.paths.proofs.Listed.{Run, IsRun, Each, followed, eachFollowed, listed, each-map, listed-run, straight, Among, all-listed}
 
 -- Rows
 
@@ -351,3 +352,30 @@ expected-run (c ∷ cs) e = (
 
 pub must-run : Each MustRun cases
 must-run = expected-run cases joint
+
+-- and, of a row that is evaluated to its end, nothing else can
+
+joint-straight : map (λ c. straight (commandOf c)) cases ≡ map (λ c. true) cases
+unfolding fold evaluationAt exprKind numbered numberOf kindOf placeFrom kinds same names begins count segments isLocal straight
+joint-straight = refl
+
+abbrev OnlyBy : Extent → Command → List Run → Type 0
+OnlyBy whole c rs = (t : List PathEvent) → Runs c t falls → Among (t, falls) rs
+OnlyBy (up-to n) c rs = Unit
+
+abbrev pub OnlyRuns : Case → Type 0
+OnlyRuns c = OnlyBy (c .extent) (commandOf c) (c .expected)
+
+only-by : (extent : Extent) (c : Command) → straight c ≡ true → OnlyBy extent c (shortened extent (listed 0 c))
+only-by whole c q = λ t x. all-listed 0 c t q x
+only-by (up-to n) c q = tt
+
+expected-only : (cs : List Case) → map shown cs ≡ map (λ c. c .expected) cs → map (λ c. straight (commandOf c)) cs ≡ map (λ c. true) cs → Each OnlyRuns cs
+expected-only [] e q = tt
+expected-only (c ∷ cs) e q = (
+  subst (OnlyBy (c .extent) (commandOf c)) (ap (nth [] 0) e) (only-by (c .extent) (commandOf c) (ap (nth false 0) q)),
+  expected-only cs (ap tail e) (ap tail q),
+)
+
+pub only-runs : Each OnlyRuns cases
+only-runs = expected-only cases joint joint-straight
