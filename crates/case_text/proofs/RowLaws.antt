@@ -8,25 +8,25 @@ use Rattle.kinds.specs.declared.Found.{Found}
 use Rattle.kinds.specs.declared.Found.the-variants.{Is, Unknown}
 use Rattle.kinds.specs.Words.{kindOf}
 use Rattle.case_text.specs.Texts.{spelled}
-use Rattle.kinds.specs.Named.{numberOf}
+use Rattle.kinds.specs.Named.{kindNumber}
 use Rattle.case_text.specs.RowTexts.{kindField, setRow}
 
-pub is-kind : (f : Found) (word : List ℕ) (k : ℕ) → f ≡ kindOf word → f ≡ Is k → k ≡ numberOf (kindOf word)
-unfolding numberOf
-is-kind f word k e q = sym (ap numberOf q) ∙ ap numberOf e
+pub is-kind : (f : Found) (word : List ℕ) (k : ℕ) → f ≡ kindOf word → f ≡ Is k → k ≡ kindNumber (kindOf word)
+unfolding kindNumber
+is-kind f word k e q = sym (ap kindNumber q) ∙ ap kindNumber e
 
-pub no-kind : (f : Found) (word : List ℕ) → f ≡ kindOf word → f ≡ Unknown → 66 ≡ numberOf (kindOf word)
-unfolding numberOf
-no-kind f word e q = sym (ap numberOf q) ∙ ap numberOf e
+pub no-kind : (f : Found) (word : List ℕ) → f ≡ kindOf word → f ≡ Unknown → 66 ≡ kindNumber (kindOf word)
+unfolding kindNumber
+no-kind f word e q = sym (ap kindNumber q) ∙ ap kindNumber e
 
-module _ (text : List ℕ) (k : ℕ) (e : k ≡ numberOf (kindOf text)) where
+module _ (text : List ℕ) (k : ℕ) (e : k ≡ kindNumber (kindOf text)) where
   pub by-number : (r : ℕ) → k ≡ 66 → r ≡ spelled 0 text % 4294967296 → r ≡ kindField text
   unfolding kindField
-  by-number r q s = rw (eq-eqb (numberOf (kindOf text)) 66 (sym e ∙ q)) s
+  by-number r q s = rw (eq-eqb (kindNumber (kindOf text)) 66 (sym e ∙ q)) s
 
   pub by-word : (k ≡ 66 → ⊥) → k ≡ kindField text
   unfolding kindField
-  by-word n = rw (ne-eqb (numberOf (kindOf text)) 66 (λ q. n (e ∙ q))) e
+  by-word n = rw (ne-eqb (kindNumber (kindOf text)) 66 (λ q. n (e ∙ q))) e
 
 module _ (rows : List ℕ) (i kind side end : ℕ) where
   pub row-past : length rows / 5 ≤ i → rows ≡ setRow rows i kind side end

@@ -5,12 +5,12 @@ use mathlib.Core.List.{List}
 use lib.Dec.{eqb, leb}
 use lib.ListN.{length, set}
 use Rattle.kinds.specs.Words.{kindOf}
-use Rattle.kinds.specs.Named.{numberOf}
+use Rattle.kinds.specs.Named.{kindNumber}
 use Rattle.case_text.specs.Texts.{spelled}
 
 -- the kind of a word or, where it is no kind's, of a number
 unfoldable pub kindField : List ℕ → ℕ
-kindField text = cond (eqb (numberOf (kindOf text)) 66) (spelled 0 text % 4294967296) (numberOf (kindOf text))
+kindField text = cond (eqb (kindNumber (kindOf text)) 66) (spelled 0 text % 4294967296) (kindNumber (kindOf text))
 
 -- the five numbers of row i set, a row that the table lacks left out; lo and hi are free
 unfoldable pub setRow : List ℕ → ℕ → ℕ → ℕ → ℕ → List ℕ

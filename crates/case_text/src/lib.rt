@@ -4,7 +4,7 @@ ghost use mathlib.Core.Path.{_≡_};
 ghost use Prim.Native.Nat.{_+_, _%_, _≤_, _<_};
 ghost use lib.ListN.{length, getD, take, drop, set};
 ghost use Rattle.kinds.specs.Words.{kindOf};
-ghost use Rattle.kinds.specs.Named.{numberOf};
+ghost use Rattle.kinds.specs.Named.{kindNumber};
 ghost use Rattle.case_text.specs.RowTexts.{kindField, setRow};
 ghost use Rattle.case_text.specs.Texts.{firstPlace, smaller, pastPlace, spelled, putPlace, putAll, allPlace, figureOf, fourFigures, hexDigit, hexByte, digestStep, digestOf};
 
@@ -175,7 +175,7 @@ pub fn digest(numbers: &[u32]) -> usize
 
 // The kind number of a word; 66, the first number that is no kind's, where it is none.
 pub fn kind(word: &[u8]) -> u32
-    ensures { λ r. ⌜ r ≡ numberOf (kindOf (now (word .entry))) ⌝ }
+    ensures { λ r. ⌜ r ≡ kindNumber (kindOf (now (word .entry))) ⌝ }
 {
     let found = kinds::find_kind(word);
     match found {

@@ -63,11 +63,11 @@ fn effect(rows: &[u32], count: usize, local: usize, kind: usize)
     if kind < 40 {
         return;
     }
-    let outcome = expr_effect::expr_writes_when(rows, local, 0, count);
-    let da = outcome.effect;
+    let effects = expr_effect::expr_writes_when(rows, local, 0, count);
+    let da = effects.effect;
     say_effect(da);
-    say_bit(outcome.when_true);
-    say_bit(outcome.when_false);
+    say_bit(effects.when_true);
+    say_bit(effects.when_false);
 }
 
 fn mentions(rows: &[u32], count: usize, local: usize)

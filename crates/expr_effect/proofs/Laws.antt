@@ -1,20 +1,21 @@
 -- The law of an expression, for every row. Of evaluation it cites the rules and the two laws of paths, of the reference test
 -- that iff makes no difference where none refers.
-use Prim.Native.Nat.{ℕ, zero, suc}
+use Prim.Native.Nat.{ℕ, zero, suc, _≤_}
 use lib.Dec.{eqb}
 use mathlib.Core.Path.{_≡_, refl, sym, ap, subst, _∙_}
 use mathlib.Core.Bool.{Bool, true, false, cond, _||_, not}
 use mathlib.Core.List.{List, _∷_}
-use Rattle.table.specs.Rows.{Forest, nil, node}
+use Rattle.table.specs.Rows.{Forest, nil, node, tree}
 use Rattle.table.specs.Fold.{fold, nth, Pairwise, no-pair, pair}
 use Rattle.table.proofs.Fold.{related-at}
-use Rattle.kinds.specs.declared.ExprKind.{ExprKind}
-use Rattle.kinds.specs.declared.ExprKind.the-variants.{Ident, Call, Lident, Opaque, Event, Unary, Binary, Ternary, Paren, Other}
-use Rattle.kinds.specs.Named.{exprKind}
+use Rattle.kinds.specs.declared.ExprClass.{ExprClass}
+use Rattle.kinds.specs.declared.ExprClass.the-variants.{Ident, Call, Lident, Opaque, Event, Unary, Binary, Ternary, Paren, Other}
+use Rattle.kinds.specs.Named.{exprClass}
 use Rattle.kinds.proofs.Below.{true-not-false}
-use Rattle.reads.specs.declared.Iff.the-variants.{Skipped}
+use Rattle.reads.specs.declared.Iff.the-variants.{Skipped, Held}
+use Rattle.reads.specs.PathRows.{isLocal}
 use Rattle.reads.specs.Mentions.{refers}
-use Rattle.reads.specs.NoRef.{isLocal, iffQuiet}
+use Rattle.reads.specs.Iffs.{iffQuiet}
 use Rattle.reads.proofs.Trees.{quiet-children, quiet-others, quiet-alone, refers-quiet}
 use Rattle.paths.specs.Marks.{full, none}
 use Rattle.paths.specs.Commands.{write, emit, seq}
@@ -22,17 +23,20 @@ use Rattle.paths.specs.Triples.{Triple, at, never}
 use Rattle.paths.specs.Evaluation.{Evaluation, Truth, is-true, is-false, opposite, free, asked, both, either, conditional, writeIf, noEvaluation, evaluationOf, evaluationAt, evaluations}
 use Rattle.paths.specs.Evaluates.{Evaluates}
 use Rattle.paths.proofs.Rules.{rule-skip, rule-write, rule-seq}
-use Rattle.paths.proofs.Steady.{evaluates-forget, evaluates-free, evaluates-asked, chain, chain-triple, conditional-triple, calm-row, quiet-row}
+use Rattle.paths.proofs.Evaluating.{evaluates-forget, evaluates-free, evaluates-asked, chain, chain-triple, conditional-triple}
+use Rattle.paths.proofs.Built.{calm-row, quiet-row, silent-row, silent-none}
 use Rattle.expr_effect.specs.declared.ExprDa.{ExprDa}
 use Rattle.expr_effect.specs.declared.ExprDa.the-variants.{Clean, Writes, Reads}
-use Rattle.expr_effect.specs.declared.Outcome.{Outcome}
+use Rattle.expr_effect.specs.declared.ExprEffect.{ExprEffect}
+use Rattle.expr_effect.specs.declared.RowEffect.{RowEffect}
 use Rattle.expr_effect.specs.declared.Form.{Form}
 use Rattle.expr_effect.specs.declared.Form.the-variants.{Inner, LogNot, Operand, LogAnd, LogOr, Operands, Arms, CallWrites, Vetted}
-use Rattle.expr_effect.specs.Effect.{unaryForm, binaryForm, callForm, formOf, join, shortCircuit, oneArm, afterCond, writesWhen, effectOf, operandsWrite, selfGuarded, combined, guarded, noOutcome, outcomeAt, outcomes, outcomeOf, exprDa, unguarded}
-use Rattle.expr_effect.specs.Law.{EffectLaw, Meets, WhenLaw, isPlain, factsAt, exprFacts, noFacts, ExprLaw, OutcomeTold, EffectTold}
+use Rattle.expr_effect.specs.Effect.{unaryForm, binaryForm, callForm, formOf, join, shortCircuit, oneArm, afterCond, writesWhen, effectOf, operandsWrite, selfGuarded, combined, guarded, noEffect, noRowEffect, exprEffectAt, exprEffects, exprEffectOf, exprDa, unguarded}
+use Rattle.expr_effect.proofs.Operands.{unguarded-none}
+use Rattle.expr_effect.specs.Law.{EffectLaw, Meets, WhenLaw, isPlain, factsAt, exprFacts, noFacts, ExprLaw, EffectTold, DaTold}
 
 -- what the effect and the writing on an outcome say of an evaluation
-pub record Sound (o : Outcome) (e : Evaluation) : Type 0 where
+pub record Sound (o : ExprEffect) (e : Evaluation) : Type 0 where
   pub calm : Evaluates full full e
   pub effect : EffectLaw (o .effect) e
   pub when : (want : Bool) (t : Truth) → Meets want t → WhenLaw (writesWhen o want) (e .truth t)
@@ -49,7 +53,7 @@ guard-when Clean w e t l h = h tt
 guard-when Writes w e t l h = l .truth t
 guard-when Reads w e t l h = tt
 
-module _ (m : Form) (n : Bool) (a b c : Outcome) (e : Evaluation) where
+module _ (m : Form) (n : Bool) (a b c : ExprEffect) (e : Evaluation) where
   row-when : EffectLaw (effectOf m n a b c) e
       → ((want : Bool) (t : Truth) → Meets want t → IsClean (effectOf m n a b c) → WhenLaw (operandsWrite m want a b) (e .truth t))
       → (want : Bool) (t : Truth) → Meets want t → WhenLaw (writesWhen (guarded (combined m n a b c)) want) (e .truth t)
@@ -68,8 +72,8 @@ vetted-effect : (n : Bool) (e : Evaluation) → (n ≡ false → Evaluates none 
 vetted-effect true e q = tt
 vetted-effect false e q = q refl
 
-vetted-sound : (n : Bool) (e : Evaluation) → Evaluates full full e → (n ≡ false → Evaluates none none e) → Sound (guarded (combined Vetted n noOutcome noOutcome noOutcome)) e
-vetted-sound n e k q = row-sound Vetted n noOutcome noOutcome noOutcome e k (vetted-effect n e q) (λ want t p i. tt)
+vetted-sound : (n : Bool) (e : Evaluation) → Evaluates full full e → (n ≡ false → Evaluates none none e) → Sound (guarded (combined Vetted n noEffect noEffect noEffect)) e
+vetted-sound n e k q = row-sound Vetted n noEffect noEffect noEffect e k (vetted-effect n e q) (λ want t p i. tt)
 
 -- the operand of a unary operator
 
@@ -138,7 +142,7 @@ module _ (l r : Evaluation) (kl : Evaluates full full l) (kr : Evaluates full fu
 
 -- each form of a row, from its operands
 
-module _ (n : Bool) (a b c : Outcome) (d e f : Evaluation) (p : Sound a d) (q : Sound b e) (r : Sound c f) where
+module _ (n : Bool) (a b c : ExprEffect) (d e f : Evaluation) (p : Sound a d) (q : Sound b e) (r : Sound c f) where
   inner-sound : Sound (guarded (combined Inner n a b c)) d
   inner-sound = row-sound Inner n a b c d (p .calm) (p .effect) (λ want t m i. p .when want t m)
 
@@ -195,20 +199,20 @@ module _ (n : Bool) (a b c : Outcome) (d e f : Evaluation) (p : Sound a d) (q : 
       or-when false is-true m i = absurd m
       or-when false is-false m i = short-when is-false d e (q .calm) (a .effect) (b .effect) (a .«when_false») (a .«when_false») (b .«when_false») is-false i (p .effect) (p .when false is-false tt) (q .when false is-false tt)
 
-writes-sound : (n : Bool) → Sound (guarded (combined CallWrites n noOutcome noOutcome noOutcome)) (free (emit write))
+writes-sound : (n : Bool) → Sound (guarded (combined CallWrites n noEffect noEffect noEffect)) (free (emit write))
 writes-sound n =
-    row-sound CallWrites n noOutcome noOutcome noOutcome (free (emit write)) (evaluates-free rule-write) (evaluates-free rule-write) (λ want t m i. absurd i)
+    row-sound CallWrites n noEffect noEffect noEffect (free (emit write)) (evaluates-free rule-write) (evaluates-free rule-write) (λ want t m i. absurd i)
 
-no-sound : Sound noOutcome noEvaluation
+no-sound : Sound noEffect noEvaluation
 no-sound = record { calm = evaluates-free rule-skip; effect = evaluates-free rule-skip; when = none-when }
   where
-    none-when : (want : Bool) (t : Truth) → Meets want t → WhenLaw (writesWhen noOutcome want) (noEvaluation .truth t)
+    none-when : (want : Bool) (t : Truth) → Meets want t → WhenLaw (writesWhen noEffect want) (noEvaluation .truth t)
     none-when true t m = tt
     none-when false t m = tt
 
 -- each kind of a row, by its side
 
-module _ (n : Bool) (a b c : Outcome) (d e f : Evaluation) (p : Sound a d) (q : Sound b e) (r : Sound c f) where
+module _ (n : Bool) (a b c : ExprEffect) (d e f : Evaluation) (p : Sound a d) (q : Sound b e) (r : Sound c f) where
   unary-sound : (i : Bool) → Sound (guarded (combined (cond i LogNot Operand) n a b c)) (cond i (asked (λ t. d .truth (opposite t))) (free (d .value)))
   unary-sound true = not-sound n a b c d e f p q r
   unary-sound false = operand-sound n a b c d e f p q r
@@ -218,21 +222,21 @@ module _ (n : Bool) (a b c : Outcome) (d e f : Evaluation) (p : Sound a d) (q : 
   binary-sound false true = or-sound n a b c d e f p q r
   binary-sound false false = operands-sound n a b c d e f p q r
 
-call-sound : (n i : Bool) (a b c : Outcome) (e : Evaluation)
+call-sound : (n i : Bool) (a b c : ExprEffect) (e : Evaluation)
     → Evaluates full full (cond i (free (emit write)) e)
     → (n ≡ false → Evaluates none none (cond i (free (emit write)) e))
     → Sound (guarded (combined (cond i CallWrites Vetted) n a b c)) (cond i (free (emit write)) e)
 call-sound n true a b c e k q = writes-sound n
 call-sound n false a b c e k q = vetted-sound n e k q
 
-module _ (x s : ℕ) (cs : Forest) (n : Bool) {os : List Outcome} {es : List Evaluation} (ps : Pairwise Sound os es) where
-  child : (i : ℕ) → Sound (nth noOutcome i os) (nth noEvaluation i es)
-  child i = related-at noOutcome noEvaluation i no-sound ps
+module _ (x s : ℕ) (cs : Forest) (n : Bool) {os : List ExprEffect} {es : List Evaluation} (ps : Pairwise Sound os es) where
+  child : (i : ℕ) → Sound (nth noEffect i os) (nth noEvaluation i es)
+  child i = related-at noEffect noEvaluation i no-sound ps
 
-  sound-kind : (k : ExprKind)
+  sound-kind : (k : ExprClass)
       → Evaluates full full (evaluationOf x k s cs es)
       → (n ≡ false → Evaluates none none (evaluationOf x k s cs es))
-      → Sound (guarded (combined (formOf k s) n (nth noOutcome 0 os) (nth noOutcome 1 os) (nth noOutcome 2 os))) (evaluationOf x k s cs es)
+      → Sound (guarded (combined (formOf k s) n (nth noEffect 0 os) (nth noEffect 1 os) (nth noEffect 2 os))) (evaluationOf x k s cs es)
   unfolding unaryForm binaryForm callForm
   sound-kind Unary h v = unary-sound n _ _ _ _ _ _ (child 0) (child 1) (child 2) (eqb s 1)
   sound-kind Binary h v = binary-sound n _ _ _ _ _ _ (child 0) (child 1) (child 2) (eqb s 1) (eqb s 2)
@@ -245,16 +249,16 @@ module _ (x s : ℕ) (cs : Forest) (n : Bool) {os : List Outcome} {es : List Eva
   sound-kind Event h v = vetted-sound n _ h v
   sound-kind Other h v = vetted-sound n _ h v
 
--- a row that does not refer by the walk's test reads nothing, where no iff refers
-row-quiet : (x k s lo hi : ℕ) (cs others : Forest) → iffQuiet x (node k s lo hi cs others) ≡ true → refers Skipped x (node k s lo hi cs nil) ≡ false → Evaluates none none (evaluationAt x k s lo hi cs (evaluations x cs))
-row-quiet x k s lo hi cs others q e = quiet-row x k s lo hi cs (sym (refers-quiet x (node k s lo hi cs nil) (quiet-alone x k s lo hi cs others q)) ∙ e)
+-- a row that does not refer by the walk's test does not hold a mention either, where no iff refers
+row-held : (x k s lo hi : ℕ) (cs others : Forest) → iffQuiet x (node k s lo hi cs others) ≡ true → refers Skipped x (node k s lo hi cs nil) ≡ false → refers Held x (node k s lo hi cs nil) ≡ false
+row-held x k s lo hi cs others q e = sym (refers-quiet x (node k s lo hi cs nil) (quiet-alone x k s lo hi cs others q)) ∙ e
 
-sound : (x : ℕ) (f : Forest) → iffQuiet x f ≡ true → Pairwise Sound (outcomes x f) (evaluations x f)
-unfolding fold outcomeAt evaluationAt
+sound : (x : ℕ) (f : Forest) → iffQuiet x f ≡ true → Pairwise Sound (exprEffects x f) (evaluations x f)
+unfolding fold exprEffectAt evaluationAt
 sound x nil q = no-pair
 sound x (node k s lo hi cs others) q =
     pair
-    (sound-kind x s cs (refers Skipped x (node k s lo hi cs nil)) (sound x cs (quiet-children x k s lo hi cs others q)) (exprKind k) (calm-row x k s lo hi cs) (row-quiet x k s lo hi cs others q))
+    (sound-kind x s cs (refers Skipped x (node k s lo hi cs nil)) (sound x cs (quiet-children x k s lo hi cs others q)) (exprClass k) (calm-row x k s lo hi cs) (λ e. quiet-row x k s lo hi cs (row-held x k s lo hi cs others q e)))
     (sound x others (quiet-others x k s lo hi cs others q))
 
 -- the law of an expression
@@ -263,7 +267,7 @@ write-plain : (plain : Bool) → plain ≡ true → Triple none (writeIf plain) 
 write-plain true e = rule-write
 write-plain false e = true-not-false (sym e)
 
-plain-writes : (x : ℕ) (k : ExprKind) (s : ℕ) (cs : Forest) (es : List Evaluation) → isPlain x k cs ≡ true → Triple none (evaluationOf x k s cs es .store) (at full) never
+plain-writes : (x : ℕ) (k : ExprClass) (s : ℕ) (cs : Forest) (es : List Evaluation) → isPlain x k cs ≡ true → Triple none (evaluationOf x k s cs es .store) (at full) never
 plain-writes x Lident s cs es e = write-plain (isLocal x cs) e
 plain-writes x Ident s cs es e = true-not-false (sym e)
 plain-writes x Call s cs es e = true-not-false (sym e)
@@ -275,17 +279,18 @@ plain-writes x Ternary s cs es e = true-not-false (sym e)
 plain-writes x Paren s cs es e = true-not-false (sym e)
 plain-writes x Other s cs es e = true-not-false (sym e)
 
-first-of : {o : Outcome} {e : Evaluation} {os : List Outcome} {es : List Evaluation} → Pairwise Sound (o ∷ os) (e ∷ es) → Sound o e
+first-of : {o : ExprEffect} {e : Evaluation} {os : List ExprEffect} {es : List Evaluation} → Pairwise Sound (o ∷ os) (e ∷ es) → Sound o e
 first-of (pair h hs) = h
 
-row-law : (x k s lo hi : ℕ) (cs others : Forest) → iffQuiet x (node k s lo hi cs others) ≡ true → Sound (outcomeAt x k s lo hi cs (outcomes x cs)) (evaluationAt x k s lo hi cs (evaluations x cs)) → ExprLaw (factsAt x k s lo hi cs (exprFacts x cs)) (evaluationAt x k s lo hi cs (evaluations x cs))
+row-law : (x k s lo hi : ℕ) (cs others : Forest) → iffQuiet x (node k s lo hi cs others) ≡ true → Sound (exprEffectAt x k s lo hi cs (exprEffects x cs)) (evaluationAt x k s lo hi cs (evaluations x cs)) → ExprLaw (factsAt x k s lo hi cs (exprFacts x cs)) (evaluationAt x k s lo hi cs (evaluations x cs))
 unfolding factsAt evaluationAt
 row-law x k s lo hi cs others q h = record {
   calm = h .calm;
-  quiet = row-quiet x k s lo hi cs others q;
+  quiet = λ e. quiet-row x k s lo hi cs (row-held x k s lo hi cs others q e);
+  silent = λ e. silent-row x k s lo hi cs (row-held x k s lo hi cs others q e);
   effect = h .effect;
   when = h .when;
-  plainly = plain-writes x (exprKind k) s cs (evaluations x cs);
+  plainly = plain-writes x (exprClass k) s cs (evaluations x cs);
 }
 
 pub expr-laws : (x : ℕ) (f : Forest) → iffQuiet x f ≡ true → Pairwise ExprLaw (exprFacts x f) (evaluations x f)
@@ -295,27 +300,34 @@ expr-laws x (node k s lo hi cs others) q =
     pair (row-law x k s lo hi cs others q (first-of (sound x (node k s lo hi cs others) q))) (expr-laws x others (quiet-others x k s lo hi cs others q))
 
 pub no-law : ExprLaw noFacts noEvaluation
-no-law = record { calm = no-sound .calm; quiet = λ e. no-sound .effect; effect = no-sound .effect; when = no-sound .when; plainly = λ e. true-not-false (sym e) }
+no-law = record { calm = no-sound .calm; quiet = λ e. no-sound .effect; silent = λ e. silent-none; effect = no-sound .effect; when = no-sound .when; plainly = λ e. true-not-false (sym e) }
 
 -- what the answers mean
 
--- the walk's facts hold the outcome
-pub facts-outcome : (x : ℕ) (f : Forest) (i : ℕ) → nth noFacts i (exprFacts x f) .outcome ≡ outcomeOf x f i
+-- the walk's facts hold the effects
+pub facts-effects : (x : ℕ) (f : Forest) (i : ℕ) → nth noFacts i (exprFacts x f) .effects ≡ exprEffectOf x f i
 unfolding fold factsAt
-facts-outcome x nil i = refl
-facts-outcome x (node k s lo hi cs others) zero = refl
-facts-outcome x (node k s lo hi cs others) (suc i) = facts-outcome x others i
+facts-effects x nil i = refl
+facts-effects x (node k s lo hi cs others) zero = refl
+facts-effects x (node k s lo hi cs others) (suc i) = facts-effects x others i
 
 effect-kept : (x : ℕ) (f : Forest) → unguarded x f .effect ≡ exprDa x f 0
-unfolding unguarded fold outcomeAt
+unfolding unguarded fold exprEffectAt
 effect-kept x nil = refl
 effect-kept x (node k s lo hi cs others) = refl
 
-module _ (x : ℕ) (f : Forest) (r : Outcome) where
-  pub outcome-told : r ≡ outcomeOf x f 0 → OutcomeTold x f r
-  outcome-told e = record { facts = facts-outcome x f 0 ∙ sym e; law = λ q. related-at noFacts noEvaluation 0 no-law (expr-laws x f q) }
+module _ (x : ℕ) (f : Forest) where
+  first-law : iffQuiet x f ≡ true → ExprLaw (nth noFacts 0 (exprFacts x f)) (nth noEvaluation 0 (evaluations x f))
+  first-law q = related-at noFacts noEvaluation 0 no-law (expr-laws x f q)
 
-  pub effect-told : r ≡ unguarded x f → EffectTold x f (r .effect)
-  effect-told e =
+  pub effect-told : (r : ExprEffect) → r ≡ exprEffectOf x f 0 → EffectTold x f r
+  effect-told r e = record { facts = facts-effects x f 0 ∙ sym e; law = first-law }
+
+  pub da-told : (r : RowEffect) → r ≡ unguarded x f → DaTold x f (r .effect)
+  da-told r e =
       let d : exprDa x f 0 ≡ r .effect = sym (rw e (effect-kept x f)) in
-      record { effect = d; law = λ q. subst (λ d. EffectLaw d (nth noEvaluation 0 (evaluations x f))) (ap (λ o. o .effect) (facts-outcome x f 0) ∙ d) (related-at noFacts noEvaluation 0 no-law (expr-laws x f q) .effect) }
+      record { effect = d; law = λ q. subst (λ d. EffectLaw d (nth noEvaluation 0 (evaluations x f))) (ap (λ o. o .effect) (facts-effects x f 0) ∙ d) (first-law q .effect) }
+
+-- no row
+pub none-told : (x : ℕ) (rows : List ℕ) (from to : ℕ) → to ≤ from → DaTold x (tree rows from to) Clean
+none-told x rows from to h = da-told x (tree rows from to) noRowEffect (unguarded-none x rows from to h)

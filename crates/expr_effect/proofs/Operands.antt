@@ -11,18 +11,19 @@ use Rattle.table.proofs.Fold.{fold-next}
 use Rattle.reads.specs.declared.Iff.the-variants.{Skipped}
 use Rattle.reads.specs.Mentions.{refers}
 use Rattle.reads.specs.NoRef.{exprNoRef}
-use Rattle.expr_effect.specs.declared.Outcome.{Outcome}
+use Rattle.expr_effect.specs.declared.ExprEffect.{ExprEffect}
+use Rattle.expr_effect.specs.declared.RowEffect.{RowEffect}
 use Rattle.expr_effect.specs.declared.Places.{Places}
 use Rattle.expr_effect.specs.Places.{PlacesTold}
 use Rattle.expr_effect.specs.declared.Form.{Form}
 use Rattle.expr_effect.specs.declared.Form.the-variants.{Inner, LogNot, Operand, LogAnd, LogOr, Operands, Arms, CallWrites, Vetted}
-use Rattle.expr_effect.specs.Effect.{combined, guarded, isWhole, isVetted, noOutcome, outcomeAt, outcomeOf, unguarded}
+use Rattle.expr_effect.specs.Effect.{combined, guarded, isWhole, isVetted, noEffect, noRowEffect, exprEffectAt, exprEffectOf, unguarded}
 
 clash : {A : Type 0} → true ≡ false → A
 clash e = absurd (true≢false e)
 
 -- where the reference test does not decide, its answer does not matter
-unvetted : (m : Form) (n p : Bool) (a b c : Outcome) → isVetted m ≡ false → combined m n a b c ≡ combined m p a b c
+unvetted : (m : Form) (n p : Bool) (a b c : ExprEffect) → isVetted m ≡ false → combined m n a b c ≡ combined m p a b c
 unvetted Inner n p a b c e = refl
 unvetted LogNot n p a b c e = refl
 unvetted Operand n p a b c e = refl
@@ -34,7 +35,7 @@ unvetted CallWrites n p a b c e = refl
 unvetted Vetted n p a b c e = clash e
 
 -- where the operands are not looked at, they do not matter
-unasked : (m : Form) (n : Bool) (a b c d e f : Outcome) → isWhole m ≡ true → combined m n a b c ≡ combined m n d e f
+unasked : (m : Form) (n : Bool) (a b c d e f : ExprEffect) → isWhole m ≡ true → combined m n a b c ≡ combined m n d e f
 unasked CallWrites n a b c d e f w = refl
 unasked Vetted n a b c d e f w = refl
 unasked Inner n a b c d e f w = clash (sym w)
@@ -62,51 +63,51 @@ not-not true = refl
 not-not false = refl
 
 -- what `whole` answers
-module _ (x : ℕ) (rows : List ℕ) (from to : ℕ) (m : Form) (v : Bool) (r none : Outcome) (pv : v ≡ isVetted m) (pn : none ≡ noOutcome) where
-  pub whole-vetted : (clear : Bool) → v ≡ true → clear ≡ exprNoRef x (tree rows from to) → r ≡ combined m (not clear) none none none → r ≡ combined m (refers Skipped x (tree rows from to)) noOutcome noOutcome noOutcome
+module _ (x : ℕ) (rows : List ℕ) (from to : ℕ) (m : Form) (v : Bool) (r : RowEffect) (none : ExprEffect) (pv : v ≡ isVetted m) (pn : none ≡ noEffect) where
+  pub whole-vetted : (clear : Bool) → v ≡ true → clear ≡ exprNoRef x (tree rows from to) → r ≡ combined m (not clear) none none none → r ≡ combined m (refers Skipped x (tree rows from to)) noEffect noEffect noEffect
   whole-vetted clear q pc p = p ∙ rw (pn, pc, not-not (refers Skipped x (tree rows from to)))
 
-  pub whole-writes : v ≡ false → r ≡ combined m false none none none → r ≡ combined m (refers Skipped x (tree rows from to)) noOutcome noOutcome noOutcome
-  whole-writes q p = p ∙ rw pn (unvetted m false (refers Skipped x (tree rows from to)) noOutcome noOutcome noOutcome (sym pv ∙ q))
+  pub whole-writes : v ≡ false → r ≡ combined m false none none none → r ≡ combined m (refers Skipped x (tree rows from to)) noEffect noEffect noEffect
+  whole-writes q p = p ∙ rw pn (unvetted m false (refers Skipped x (tree rows from to)) noEffect noEffect noEffect (sym pv ∙ q))
 
 -- no row
-pub unguarded-none : (x : ℕ) (rows : List ℕ) (from to : ℕ) (r : Outcome) → to ≤ from → r ≡ noOutcome → r ≡ unguarded x (tree rows from to)
+pub unguarded-none : (x : ℕ) (rows : List ℕ) (from to : ℕ) → to ≤ from → noRowEffect ≡ unguarded x (tree rows from to)
 unfolding unguarded
-unguarded-none x rows from to r h e = e ∙ rw (tree-none rows from to h)
+unguarded-none x rows from to h = rw (tree-none rows from to h)
 
 -- a row
-module _ (x : ℕ) (rows : List ℕ) (from to : ℕ) (o : Places) (w : Bool) (r : Outcome)
+module _ (x : ℕ) (rows : List ℕ) (from to : ℕ) (o : Places) (w : Bool) (r : RowEffect)
     (g : Nested rows from to) (h : from < to) (po : PlacesTold rows from to o) (pw : w ≡ isWhole (o .form)) where
   first : unguarded x (tree rows from to)
-      ≡ combined (o .form) (refers Skipped x (tree rows from (o .end))) (outcomeOf x (tree rows (from + 1) (o .end)) 0) (outcomeOf x (tree rows (from + 1) (o .end)) 1) (outcomeOf x (tree rows (from + 1) (o .end)) 2)
+      ≡ combined (o .form) (refers Skipped x (tree rows from (o .end))) (exprEffectOf x (tree rows (from + 1) (o .end)) 0) (exprEffectOf x (tree rows (from + 1) (o .end)) 1) (exprEffectOf x (tree rows (from + 1) (o .end)) 2)
   unfolding unguarded
   first = rw (tree-some g h, po .form, po .end, tree-alone g h)
 
-  pub unguarded-whole : w ≡ true → r ≡ combined (o .form) (refers Skipped x (tree rows from (o .end))) noOutcome noOutcome noOutcome → r ≡ unguarded x (tree rows from to)
+  pub unguarded-whole : w ≡ true → r ≡ combined (o .form) (refers Skipped x (tree rows from (o .end))) noEffect noEffect noEffect → r ≡ unguarded x (tree rows from to)
   unguarded-whole q p =
-      p ∙ unasked (o .form) (refers Skipped x (tree rows from (o .end))) noOutcome noOutcome noOutcome _ _ _ (sym pw ∙ q) ∙ sym first
+      p ∙ unasked (o .form) (refers Skipped x (tree rows from (o .end))) noEffect noEffect noEffect _ _ _ (sym pw ∙ q) ∙ sym first
 
-  pub unguarded-operands : (a b c : Outcome)
+  pub unguarded-operands : (a b c : ExprEffect)
       → w ≡ false
-      → a ≡ outcomeOf x (tree rows (from + 1) (o .end)) 0
-      → b ≡ outcomeOf x (tree rows (o .second) (o .end)) 0
-      → c ≡ outcomeOf x (tree rows (o .third) (o .end)) 0
+      → a ≡ exprEffectOf x (tree rows (from + 1) (o .end)) 0
+      → b ≡ exprEffectOf x (tree rows (o .second) (o .end)) 0
+      → c ≡ exprEffectOf x (tree rows (o .third) (o .end)) 0
       → r ≡ combined (o .form) false a b c
       → r ≡ unguarded x (tree rows from to)
   unguarded-operands a b c q pa pb pc p =
-      let vb : b ≡ outcomeOf x (tree rows (from + 1) (o .end)) 1 = pb ∙ fold-next (outcomeAt x) noOutcome 0 (po .first) (po .second) in
-      let vc : c ≡ outcomeOf x (tree rows (from + 1) (o .end)) 2 =
-      pc ∙ fold-next (outcomeAt x) noOutcome 0 (po .from-second) (po .third) ∙ fold-next (outcomeAt x) noOutcome 1 (po .first) (po .second) in
+      let vb : b ≡ exprEffectOf x (tree rows (from + 1) (o .end)) 1 = pb ∙ fold-next (exprEffectAt x) noEffect 0 (po .first) (po .second) in
+      let vc : c ≡ exprEffectOf x (tree rows (from + 1) (o .end)) 2 =
+      pc ∙ fold-next (exprEffectAt x) noEffect 0 (po .from-second) (po .third) ∙ fold-next (exprEffectAt x) noEffect 1 (po .first) (po .second) in
       p ∙ rw (pa, vb, vc) (unvetted (o .form) false (refers Skipped x (tree rows from (o .end))) _ _ _ (part-unvetted (o .form) (sym pw ∙ q))) ∙ sym first
 
-outcome-first : (x : ℕ) (f : Forest) → outcomeOf x f 0 ≡ guarded (unguarded x f)
-unfolding unguarded fold outcomeAt
-outcome-first x nil = refl
-outcome-first x (node k s lo hi cs others) = refl
+effect-first : (x : ℕ) (f : Forest) → exprEffectOf x f 0 ≡ guarded (unguarded x f)
+unfolding unguarded fold exprEffectAt
+effect-first x nil = refl
+effect-first x (node k s lo hi cs others) = refl
 
 -- what `expr_writes_when` answers
-pub outcome-guarded : (x : ℕ) (rows : List ℕ) (from to : ℕ) (o r : Outcome) → o ≡ unguarded x (tree rows from to) → r ≡ guarded o → r ≡ outcomeOf x (tree rows from to) 0
-outcome-guarded x rows from to o r p q = q ∙ rw p (sym (outcome-first x (tree rows from to)))
+pub effect-guarded : (x : ℕ) (rows : List ℕ) (from to : ℕ) (o : RowEffect) (r : ExprEffect) → o ≡ unguarded x (tree rows from to) → r ≡ guarded o → r ≡ exprEffectOf x (tree rows from to) 0
+effect-guarded x rows from to o r p q = q ∙ rw p (sym (effect-first x (tree rows from to)))
 
 -- the operands' ranges are smaller
 module _ (rows : List ℕ) (from to : ℕ) (o : Places) (po : PlacesTold rows from to o) (u : ℕ) (pu : 2 * (to - from) ≡ u) where
@@ -122,4 +123,4 @@ module _ (rows : List ℕ) (from to : ℕ) (o : Places) (po : PlacesTold rows fr
   pub third-less : 2 * (o .end - o .third) + 1 < u
   third-less = less (o .third) (po .third-after)
 
-pub ruleset answers = (whole-vetted, whole-writes, unguarded-none, unguarded-whole, unguarded-operands, outcome-guarded, first-less, second-less, third-less)
+pub ruleset answers = (whole-vetted, whole-writes, unguarded-none, unguarded-whole, unguarded-operands, effect-guarded, first-less, second-less, third-less)

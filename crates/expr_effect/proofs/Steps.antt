@@ -3,12 +3,13 @@ use Prim.Native.Nat.{ℕ}
 use mathlib.Core.Path.{_≡_}
 use mathlib.Core.Bool.{Bool, true, false, _||_}
 use borrow.Author.Tests.{ne-eqb}
-use Rattle.kinds.specs.declared.ExprKind.{ExprKind}
-use Rattle.kinds.specs.declared.ExprKind.the-variants.{Call, Unary, Binary}
-use Rattle.kinds.specs.Named.{exprKind}
+use Rattle.kinds.specs.declared.ExprClass.{ExprClass}
+use Rattle.kinds.specs.declared.ExprClass.the-variants.{Call, Unary, Binary}
+use Rattle.kinds.specs.Named.{exprClass}
 use Rattle.expr_effect.specs.declared.ExprDa.{ExprDa}
 use Rattle.expr_effect.specs.declared.ExprDa.the-variants.{Clean, Writes, Reads}
-use Rattle.expr_effect.specs.declared.Outcome.{Outcome}
+use Rattle.expr_effect.specs.declared.ExprEffect.{ExprEffect}
+use Rattle.expr_effect.specs.declared.RowEffect.{RowEffect}
 use Rattle.expr_effect.specs.declared.Form.{Form}
 use Rattle.expr_effect.specs.declared.Form.the-variants.{Inner, LogNot, Operand, LogAnd, LogOr, Operands, Arms, CallWrites, Vetted}
 use Rattle.expr_effect.specs.Effect.{unaryForm, binaryForm, callForm, formOf, vettedEffect, join, shortCircuit, oneArm, afterCond, effectOf, operandsWrite, guarded}
@@ -43,7 +44,7 @@ module _ (s : ℕ) where
   unfolding callForm
   side-vetted n = rw (ne-eqb s 1 n)
 
-  module _ (k : ExprKind) (m : Form) where
+  module _ (k : ExprClass) (m : Form) where
     pub form-unary : k ≡ Unary → m ≡ unaryForm s → m ≡ formOf k s
     form-unary e p = rw e p
 
@@ -56,7 +57,7 @@ module _ (s : ℕ) where
 pub ruleset forms = (side-not, side-operand, side-and, side-or, side-operands, side-writes, side-vetted, form-unary, form-binary, form-call)
 
 -- the effect by form
-module _ (m : Form) (refers : Bool) (a b c : Outcome) where
+module _ (m : Form) (refers : Bool) (a b c : ExprEffect) where
   pub effect-inner : m ≡ Inner → a .effect ≡ effectOf m refers a b c
   effect-inner e = rw e
 
@@ -88,7 +89,7 @@ module _ (m : Form) (refers : Bool) (a b c : Outcome) where
 pub ruleset effects = (effect-inner, effect-not, effect-operand, effect-writes, effect-and, effect-or, effect-operands, effect-arms, effect-vetted)
 
 -- the operands' writing by form
-module _ (m : Form) (a b : Outcome) (r : Bool) where
+module _ (m : Form) (a b : ExprEffect) (r : Bool) where
   pub true-and : m ≡ LogAnd → r ≡ a .«when_true» || b .«when_true» → r ≡ operandsWrite m true a b
   true-and e p = rw e p
 
@@ -98,16 +99,16 @@ module _ (m : Form) (a b : Outcome) (r : Bool) where
 pub ruleset writings = (true-and, false-or)
 
 -- the guard by effect
-module _ (o : Outcome) where
-  pub guard-writes : o .effect ≡ Writes → _≡_ {A = Outcome} (record { effect = Writes; «when_true» = true; «when_false» = true }) (guarded o)
+module _ (row : RowEffect) where
+  pub guard-writes : row .effect ≡ Writes → _≡_ {A = ExprEffect} (record { effect = Writes; «when_true» = true; «when_false» = true }) (guarded row)
   guard-writes e = rw e
 
-  pub guard-reads : o .effect ≡ Reads → _≡_ {A = Outcome} (record { effect = Reads; «when_true» = false; «when_false» = false }) (guarded o)
+  pub guard-reads : row .effect ≡ Reads → _≡_ {A = ExprEffect} (record { effect = Reads; «when_true» = false; «when_false» = false }) (guarded row)
   guard-reads e = rw e
 
-  pub guard-clean : o .effect ≡ Clean → o ≡ guarded o
+  pub guard-clean : row .effect ≡ Clean → _≡_ {A = ExprEffect} (record { effect = Clean; «when_true» = row .«operands_true»; «when_false» = row .«operands_false» }) (guarded row)
   guard-clean e = rw e
 
 -- the form of a row
-pub form-row : (k s : ℕ) (n : ExprKind) (i j : ℕ) (m : Form) → k ≡ i → n ≡ exprKind k → s ≡ j → m ≡ formOf n s → m ≡ formOf (exprKind i) j
+pub form-row : (k s : ℕ) (n : ExprClass) (i j : ℕ) (m : Form) → k ≡ i → n ≡ exprClass k → s ≡ j → m ≡ formOf n s → m ≡ formOf (exprClass i) j
 form-row k s n i j m p q r e = rw (← p, ← r, ← q) e

@@ -5,14 +5,15 @@ use Prim.Native.Nat.{ℕ}
 use lib.Dec.{eqb}
 use Rattle.table.specs.Rows.{Forest, nil, node}
 use Rattle.table.specs.Fold.{Alg, fold, nth}
-use Rattle.kinds.specs.declared.ExprKind.{ExprKind}
-use Rattle.kinds.specs.declared.ExprKind.the-variants.{Ident, Call, Lident, Opaque, Event, Unary, Binary, Ternary, Paren, Other}
-use Rattle.kinds.specs.Named.{exprKind}
+use Rattle.kinds.specs.declared.ExprClass.{ExprClass}
+use Rattle.kinds.specs.declared.ExprClass.the-variants.{Ident, Call, Lident, Opaque, Event, Unary, Binary, Ternary, Paren, Other}
+use Rattle.kinds.specs.Named.{exprClass}
 use Rattle.reads.specs.declared.Iff.the-variants.{Skipped}
 use Rattle.reads.specs.Mentions.{refers}
 use Rattle.expr_effect.specs.declared.ExprDa.{ExprDa}
 use Rattle.expr_effect.specs.declared.ExprDa.the-variants.{Clean, Writes, Reads}
-use Rattle.expr_effect.specs.declared.Outcome.{Outcome}
+use Rattle.expr_effect.specs.declared.ExprEffect.{ExprEffect}
+use Rattle.expr_effect.specs.declared.RowEffect.{RowEffect}
 use Rattle.expr_effect.specs.declared.Form.{Form}
 use Rattle.expr_effect.specs.declared.Form.the-variants.{Inner, LogNot, Operand, LogAnd, LogOr, Operands, Arms, CallWrites, Vetted}
 
@@ -27,7 +28,7 @@ unfoldable pub callForm : ℕ → Form
 callForm s = cond (eqb s 1) CallWrites Vetted
 
 -- the arms of the match in expr_da, by kind and side
-abbrev pub formOf : ExprKind → ℕ → Form
+abbrev pub formOf : ExprClass → ℕ → Form
 formOf Paren s = Inner
 formOf Unary s = unaryForm s
 formOf Binary s = binaryForm s
@@ -77,12 +78,12 @@ afterCond Writes arms = Writes
 afterCond Reads arms = Reads
 afterCond Clean arms = arms
 
--- the writing on the outcome that is wanted
-abbrev pub writesWhen : Outcome → Bool → Bool
+-- the writing on the outcome that is wanted, true or false
+abbrev pub writesWhen : ExprEffect → Bool → Bool
 writesWhen o want = cond want (o .«when_true») (o .«when_false»)
 
 -- expr_da: the match on the kind, from what the row's operands do; `refers` is the reference test of the row itself
-abbrev pub effectOf : Form → Bool → Outcome → Outcome → Outcome → ExprDa
+abbrev pub effectOf : Form → Bool → ExprEffect → ExprEffect → ExprEffect → ExprDa
 effectOf Inner refers a b c = a .effect
 effectOf LogNot refers a b c = a .effect
 effectOf Operand refers a b c = a .effect
@@ -94,7 +95,7 @@ effectOf Arms refers a b c = afterCond (a .effect) (oneArm (b .effect) (c .effec
 effectOf Vetted refers a b c = vettedEffect refers
 
 -- expr_writes_when: its second match, which a clean row comes to
-abbrev pub operandsWrite : Form → Bool → Outcome → Outcome → Bool
+abbrev pub operandsWrite : Form → Bool → ExprEffect → ExprEffect → Bool
 operandsWrite Inner want a b = writesWhen a want
 operandsWrite LogNot want a b = writesWhen a (not want)
 operandsWrite LogAnd want a b = cond want (writesWhen a true || writesWhen b true) false
@@ -111,23 +112,23 @@ selfGuarded Writes wrote = true
 selfGuarded Reads wrote = false
 selfGuarded Clean wrote = wrote
 
--- a row's effect, and what its operands write on each outcome
-abbrev pub combined : Form → Bool → Outcome → Outcome → Outcome → Outcome
+-- a row's effect, and what its operands write once the row is true, and once it is false
+abbrev pub combined : Form → Bool → ExprEffect → ExprEffect → ExprEffect → RowEffect
 combined m refers a b c = record {
   effect = effectOf m refers a b c;
-  «when_true» = operandsWrite m true a b;
-  «when_false» = operandsWrite m false a b;
+  «operands_true» = operandsWrite m true a b;
+  «operands_false» = operandsWrite m false a b;
 }
 
--- a row's effect, and what the row writes on each outcome
-abbrev pub guarded : Outcome → Outcome
-guarded o = record {
-  effect = o .effect;
-  «when_true» = selfGuarded (o .effect) (o .«when_true»);
-  «when_false» = selfGuarded (o .effect) (o .«when_false»);
+-- a row's effect, and what the row writes
+abbrev pub guarded : RowEffect → ExprEffect
+guarded r = record {
+  effect = r .effect;
+  «when_true» = selfGuarded (r .effect) (r .«operands_true»);
+  «when_false» = selfGuarded (r .effect) (r .«operands_false»);
 }
 
--- the forms whose operands are not looked at one by one, and the one that the reference test decides
+-- the form that the reference test decides
 abbrev pub isVetted : Form → Bool
 isVetted Vetted = true
 isVetted CallWrites = false
@@ -139,6 +140,7 @@ isVetted LogOr = false
 isVetted Operands = false
 isVetted Arms = false
 
+-- the forms whose operands are not looked at one by one
 abbrev pub isWhole : Form → Bool
 isWhole Vetted = true
 isWhole CallWrites = true
@@ -151,33 +153,36 @@ isWhole Operands = false
 isWhole Arms = false
 
 -- nothing evaluated
-abbrev pub noOutcome : Outcome
-noOutcome = record { effect = Clean; «when_true» = false; «when_false» = false }
+abbrev pub noEffect : ExprEffect
+noEffect = record { effect = Clean; «when_true» = false; «when_false» = false }
 
--- a row, from the outcomes of its children
-abbrev pub rowOutcome : ℕ → ℕ → ℕ → ℕ → ℕ → Forest → List Outcome → Outcome
-rowOutcome x k s lo hi cs os =
-    combined (formOf (exprKind k) s) (refers Skipped x (node k s lo hi cs nil)) (nth noOutcome 0 os) (nth noOutcome 1 os) (nth noOutcome 2 os)
+abbrev pub noRowEffect : RowEffect
+noRowEffect = record { effect = Clean; «operands_true» = false; «operands_false» = false }
 
-unfoldable pub outcomeAt : ℕ → Alg Outcome
-outcomeAt x k s lo hi cs os = guarded (rowOutcome x k s lo hi cs os)
+-- a row, from the effects of its children
+abbrev pub rowEffect : ℕ → ℕ → ℕ → ℕ → ℕ → Forest → List ExprEffect → RowEffect
+rowEffect x k s lo hi cs os =
+    combined (formOf (exprClass k) s) (refers Skipped x (node k s lo hi cs nil)) (nth noEffect 0 os) (nth noEffect 1 os) (nth noEffect 2 os)
 
--- of each of these siblings: the effect and the writing on both outcomes, for the local x
-abbrev pub outcomes : ℕ → Forest → List Outcome
-outcomes x = fold (outcomeAt x)
+unfoldable pub exprEffectAt : ℕ → Alg ExprEffect
+exprEffectAt x k s lo hi cs os = guarded (rowEffect x k s lo hi cs os)
+
+-- of each of these siblings: the effect, and the writing on either outcome, for the local x
+abbrev pub exprEffects : ℕ → Forest → List ExprEffect
+exprEffects x = fold (exprEffectAt x)
 
 -- the sibling number i
-abbrev pub outcomeOf : ℕ → Forest → ℕ → Outcome
-outcomeOf x f i = nth noOutcome i (outcomes x f)
+abbrev pub exprEffectOf : ℕ → Forest → ℕ → ExprEffect
+exprEffectOf x f i = nth noEffect i (exprEffects x f)
 
 -- expr_da and expr_writes_when, of the sibling number i
 abbrev pub exprDa : ℕ → Forest → ℕ → ExprDa
-exprDa x f i = outcomeOf x f i .effect
+exprDa x f i = exprEffectOf x f i .effect
 
 abbrev pub exprWritesWhen : ℕ → Forest → ℕ → Bool → Bool
-exprWritesWhen x f i want = writesWhen (outcomeOf x f i) want
+exprWritesWhen x f i want = writesWhen (exprEffectOf x f i) want
 
 -- the first sibling, before its own effect is looked at
-unfoldable pub unguarded : ℕ → Forest → Outcome
-unguarded x nil = noOutcome
-unguarded x (node k s lo hi cs others) = rowOutcome x k s lo hi cs (outcomes x cs)
+unfoldable pub unguarded : ℕ → Forest → RowEffect
+unguarded x nil = noRowEffect
+unguarded x (node k s lo hi cs others) = rowEffect x k s lo hi cs (exprEffects x cs)

@@ -6,24 +6,27 @@ use mathlib.Core.List.{List}
 use Prim.Native.Nat.{ℕ}
 use Rattle.table.specs.Rows.{Forest, nil, node}
 use Rattle.table.specs.Fold.{Alg, fold, nth}
-use Rattle.kinds.specs.declared.ExprKind.{ExprKind}
-use Rattle.kinds.specs.declared.ExprKind.the-variants.{Ident, Call, Lident, Opaque, Event, Unary, Binary, Ternary, Paren, Other}
-use Rattle.kinds.specs.Named.{exprKind}
+use Rattle.kinds.specs.declared.ExprClass.{ExprClass}
+use Rattle.kinds.specs.declared.ExprClass.the-variants.{Ident, Call, Lident, Opaque, Event, Unary, Binary, Ternary, Paren, Other}
+use Rattle.kinds.specs.Named.{exprClass}
 use Rattle.reads.specs.declared.Iff.the-variants.{Skipped}
+use Rattle.reads.specs.PathRows.{isLocal}
 use Rattle.reads.specs.Mentions.{refers as refersIn}
-use Rattle.reads.specs.NoRef.{isLocal, iffQuiet}
+use Rattle.reads.specs.Iffs.{iffQuiet}
 use Rattle.paths.specs.Marks.{full, none}
 use Rattle.paths.specs.Commands.{Command}
 use Rattle.paths.specs.Triples.{Triple, at, never}
 use Rattle.paths.specs.Evaluation.{Evaluation, Truth, is-true, is-false, noEvaluation, evaluations}
 use Rattle.paths.specs.Evaluates.{Evaluates}
+use Rattle.paths.specs.Silence.{ReadsNothing}
 use Rattle.expr_effect.specs.declared.ExprDa.{ExprDa}
 use Rattle.expr_effect.specs.declared.ExprDa.the-variants.{Clean, Writes, Reads}
-use Rattle.expr_effect.specs.declared.Outcome.{Outcome}
-use Rattle.expr_effect.specs.Effect.{writesWhen, noOutcome, outcomeAt, outcomes, exprDa}
+use Rattle.expr_effect.specs.declared.ExprEffect.{ExprEffect}
+use Rattle.expr_effect.specs.Effect.{writesWhen, noEffect, exprEffectAt, exprEffects, exprDa}
 
--- Clean: "No READ of `name` can happen"; Writes: "EVERY evaluation of this expression writes `name` whole, and no read of
--- `name` can precede that write"; Reads claims nothing
+-- Clean: no read while the local is unwritten. (The Rust's comment says no read at all, but `(c && w(x)) && x` is Clean there
+-- too.) Writes: "EVERY evaluation of this expression writes `name` whole, and no read of `name` can precede that write". Reads
+-- claims nothing.
 abbrev pub EffectLaw : ExprDa → Evaluation → Type 0
 EffectLaw Clean e = Evaluates none none e
 EffectLaw Writes e = Evaluates none full e
@@ -42,7 +45,7 @@ WhenLaw true c = Triple none c (at full) never
 WhenLaw false c = Unit
 
 -- "The plain local is an lident whose path is one segment, the local"
-abbrev pub isPlain : ℕ → ExprKind → Forest → Bool
+abbrev pub isPlain : ℕ → ExprClass → Forest → Bool
 isPlain x Lident cs = isLocal x cs
 isPlain x Ident cs = false
 isPlain x Call cs = false
@@ -58,13 +61,13 @@ isPlain x Other cs = false
 pub record ExprFacts : Type 0 where
   pub refers : Bool
   pub plain : Bool
-  pub outcome : Outcome
+  pub effects : ExprEffect
 
 unfoldable pub factsAt : ℕ → Alg ExprFacts
 factsAt x k s lo hi cs fs = record {
   refers = refersIn Skipped x (node k s lo hi cs nil);
-  plain = isPlain x (exprKind k) cs;
-  outcome = outcomeAt x k s lo hi cs (outcomes x cs);
+  plain = isPlain x (exprClass k) cs;
+  effects = exprEffectAt x k s lo hi cs (exprEffects x cs);
 }
 
 -- of each of these siblings, for the local x
@@ -73,23 +76,25 @@ exprFacts x = fold (factsAt x)
 
 -- what stands where a child is missing
 abbrev pub noFacts : ExprFacts
-noFacts = record { refers = false; plain = false; outcome = noOutcome }
+noFacts = record { refers = false; plain = false; effects = noEffect }
 
 pub record ExprLaw (facts : ExprFacts) (e : Evaluation) : Type 0 where
   -- where the local is written, any evaluation is fine
   pub calm : Evaluates full full e
-  -- no reference: nothing is read
+  -- no reference: what is written is kept, and nothing is read
   pub quiet : facts .refers ≡ false → Evaluates none none e
-  pub effect : EffectLaw (facts .outcome .effect) e
-  pub when : (want : Bool) (t : Truth) → Meets want t → WhenLaw (writesWhen (facts .outcome) want) (e .truth t)
+  pub silent : facts .refers ≡ false → ReadsNothing e
+  pub effect : EffectLaw (facts .effects .effect) e
+  pub when : (want : Bool) (t : Truth) → Meets want t → WhenLaw (writesWhen (facts .effects) want) (e .truth t)
   -- the plain local as a target is written
   pub plainly : facts .plain ≡ true → Triple none (e .store) (at full) never
 
 -- what an answer means, for the first of these siblings: the law of an expression, where no iff refers to the local
-pub record OutcomeTold (x : ℕ) (f : Forest) (o : Outcome) : Type 0 where
-  pub facts : nth noFacts 0 (exprFacts x f) .outcome ≡ o
+pub record EffectTold (x : ℕ) (f : Forest) (o : ExprEffect) : Type 0 where
+  pub facts : nth noFacts 0 (exprFacts x f) .effects ≡ o
   pub law : iffQuiet x f ≡ true → ExprLaw (nth noFacts 0 (exprFacts x f)) (nth noEvaluation 0 (evaluations x f))
 
-pub record EffectTold (x : ℕ) (f : Forest) (d : ExprDa) : Type 0 where
+-- the same of the effect alone
+pub record DaTold (x : ℕ) (f : Forest) (d : ExprDa) : Type 0 where
   pub effect : exprDa x f 0 ≡ d
   pub law : iffQuiet x f ≡ true → EffectLaw d (nth noEvaluation 0 (evaluations x f))

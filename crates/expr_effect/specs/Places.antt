@@ -3,12 +3,12 @@ use Prim.Native.Nat.{ℕ, _+_, _≤_, _<_}
 use mathlib.Core.Path.{_≡_}
 use mathlib.Core.List.{List}
 use Rattle.table.specs.Rows.{kindAt, sideAt, endAt, nextOf, Nested}
-use Rattle.kinds.specs.Named.{exprKind}
+use Rattle.kinds.specs.Named.{exprClass}
 use Rattle.expr_effect.specs.declared.Places.{Places}
 use Rattle.expr_effect.specs.Effect.{formOf}
 
 pub record PlacesTold (rows : List ℕ) (i to : ℕ) (r : Places) : Type 0 where
-  pub form : r .form ≡ formOf (exprKind (kindAt rows i)) (sideAt rows i)
+  pub form : r .form ≡ formOf (exprClass (kindAt rows i)) (sideAt rows i)
   pub end : r .end ≡ endAt rows i
   pub after : i < r .end
   pub within : r .end ≤ to

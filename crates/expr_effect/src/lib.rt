@@ -1,21 +1,21 @@
 // What evaluating an expression does to the local: da/expr_effect.rs, over rows. The effect of a row and its writing on both
 // outcomes are worked out together, so each row is visited once.
-use kinds::ExprKind;
+use kinds::ExprClass;
 ghost use mathlib.Core.Path.{_≡_};
 ghost use mathlib.Core.Bool.{true, false, _||_};
 ghost use Prim.Native.Nat.{_+_, _*_, _<_};
 ghost use lib.ListN.{length};
 ghost use Rattle.table.specs.Rows.{Nested, tree, kindAt, sideAt};
-ghost use Rattle.kinds.specs.Named.{exprKind};
+ghost use Rattle.kinds.specs.Named.{exprClass};
 ghost use Rattle.reads.specs.declared.Iff.the-variants.{Skipped};
 ghost use Rattle.reads.specs.Mentions.{refers};
-ghost use Rattle.expr_effect.specs.Effect.{unaryForm, binaryForm, callForm, formOf, join as joinOf, shortCircuit, oneArm, afterCond, effectOf, operandsWrite, combined, guarded, isWhole, isVetted, noOutcome, vettedEffect, unguarded, outcomeOf};
-ghost use Rattle.expr_effect.specs.Law.{EffectTold, OutcomeTold};
+ghost use Rattle.expr_effect.specs.Effect.{unaryForm, binaryForm, callForm, formOf, join as joinOf, shortCircuit, oneArm, afterCond, effectOf, operandsWrite, combined, guarded, isWhole, isVetted, noEffect, vettedEffect, unguarded, exprEffectOf};
+ghost use Rattle.expr_effect.specs.Law.{DaTold, EffectTold};
 ghost use Rattle.expr_effect.specs.Places.{PlacesTold};
 
 // What evaluating an expression does to the local, as in the Rust.
 pub enum ExprDa {
-    // No read can happen; a write may.
+    // No read can happen while the local is unwritten; a write may.
     Clean,
     // Every evaluation writes the whole local, and no read comes before that.
     Writes,
@@ -24,10 +24,18 @@ pub enum ExprDa {
 }
 
 // The effect of an expression, and whether the local is written once its value is known to be true, and to be false.
-pub struct Outcome {
+pub struct ExprEffect {
     pub effect: ExprDa,
     pub when_true: bool,
     pub when_false: bool,
+}
+
+// The effect of a row, and what its operands write once the row is true, and once it is false: what the row itself writes
+// takes its own effect into account.
+pub struct RowEffect {
+    pub effect: ExprDa,
+    pub operands_true: bool,
+    pub operands_false: bool,
 }
 
 // What the Rust's match tells apart: a paren's inner expression, logical not, the operand of another unary operator, && and
@@ -82,20 +90,20 @@ fn call_form(side: usize) -> Form
     }
 }
 
-fn form_of(kind: ExprKind, side: usize) -> Form
+fn form_of(kind: ExprClass, side: usize) -> Form
     ensures { λ r. ⌜ r ≡ formOf kind side ⌝ }
 {
     match kind {
-        ExprKind::Paren => Form::Inner,
-        ExprKind::Unary => unary_form(side),
-        ExprKind::Binary => binary_form(side),
-        ExprKind::Ternary => Form::Arms,
-        ExprKind::Call => call_form(side),
-        ExprKind::Ident => Form::Vetted,
-        ExprKind::Lident => Form::Vetted,
-        ExprKind::Opaque => Form::Vetted,
-        ExprKind::Event => Form::Vetted,
-        ExprKind::Other => Form::Vetted,
+        ExprClass::Paren => Form::Inner,
+        ExprClass::Unary => unary_form(side),
+        ExprClass::Binary => binary_form(side),
+        ExprClass::Ternary => Form::Arms,
+        ExprClass::Call => call_form(side),
+        ExprClass::Ident => Form::Vetted,
+        ExprClass::Lident => Form::Vetted,
+        ExprClass::Opaque => Form::Vetted,
+        ExprClass::Event => Form::Vetted,
+        ExprClass::Other => Form::Vetted,
     }
 }
 
@@ -170,7 +178,7 @@ fn vetted_effect(refers: bool) -> ExprDa
     if refers { ExprDa::Reads } else { ExprDa::Clean }
 }
 
-fn effect_of(form: Form, refers: bool, a: Outcome, b: Outcome, c: Outcome) -> ExprDa
+fn effect_of(form: Form, refers: bool, a: ExprEffect, b: ExprEffect, c: ExprEffect) -> ExprDa
     ensures { λ r. ⌜ r ≡ effectOf form refers a b c ⌝ }
 {
     let first = a.effect;
@@ -196,7 +204,7 @@ fn either_writes(a: bool, b: bool) -> bool
 }
 
 // What a clean row's operands write once the row is true.
-fn writes_when_true(form: Form, a: Outcome, b: Outcome) -> bool
+fn writes_when_true(form: Form, a: ExprEffect, b: ExprEffect) -> bool
     ensures { λ r. ⌜ r ≡ operandsWrite form true a b ⌝ }
 {
     match form {
@@ -213,7 +221,7 @@ fn writes_when_true(form: Form, a: Outcome, b: Outcome) -> bool
 }
 
 // What a clean row's operands write once the row is false.
-fn writes_when_false(form: Form, a: Outcome, b: Outcome) -> bool
+fn writes_when_false(form: Form, a: ExprEffect, b: ExprEffect) -> bool
     ensures { λ r. ⌜ r ≡ operandsWrite form false a b ⌝ }
 {
     match form {
@@ -229,42 +237,46 @@ fn writes_when_false(form: Form, a: Outcome, b: Outcome) -> bool
     }
 }
 
-fn combine(form: Form, refers: bool, a: Outcome, b: Outcome, c: Outcome) -> Outcome
+fn combine(form: Form, refers: bool, a: ExprEffect, b: ExprEffect, c: ExprEffect) -> RowEffect
     ensures { λ r. ⌜ r ≡ combined form refers a b c ⌝ }
 {
-    Outcome {
+    RowEffect {
         effect: effect_of(form, refers, a, b, c),
-        when_true: writes_when_true(form, a, b),
-        when_false: writes_when_false(form, a, b),
+        operands_true: writes_when_true(form, a, b),
+        operands_false: writes_when_false(form, a, b),
     }
 }
 
 // A row that writes does so on every outcome; one that may read claims no write, so that no write can be claimed that a read
 // came before.
-fn guard(o: Outcome) -> Outcome
-    ensures { λ r. ⌜ r ≡ guarded o ⌝ }
+fn guard(row: RowEffect) -> ExprEffect
+    ensures { λ r. ⌜ r ≡ guarded row ⌝ }
 {
-    let effect = o.effect;
+    let effect = row.effect;
     match effect {
-        ExprDa::Writes => Outcome {
+        ExprDa::Writes => ExprEffect {
             effect: ExprDa::Writes,
             when_true: true,
             when_false: true,
         },
-        ExprDa::Reads => Outcome {
+        ExprDa::Reads => ExprEffect {
             effect: ExprDa::Reads,
             when_true: false,
             when_false: false,
         },
-        ExprDa::Clean => o,
+        ExprDa::Clean => ExprEffect {
+            effect: ExprDa::Clean,
+            when_true: row.operands_true,
+            when_false: row.operands_false,
+        },
     }
 }
 
 // Nothing evaluated.
-fn nothing() -> Outcome
-    ensures { λ r. ⌜ r ≡ noOutcome ⌝ }
+fn nothing() -> ExprEffect
+    ensures { λ r. ⌜ r ≡ noEffect ⌝ }
 {
-    Outcome {
+    ExprEffect {
         effect: ExprDa::Clean,
         when_true: false,
         when_false: false,
@@ -308,10 +320,10 @@ fn is_vetted(form: Form) -> bool
 // The form of row i.
 fn form_at(rows: &[u32], i: usize) -> Form
     requires { ⌜ 5 * i + 4 < length (now rows) ⌝ }
-    ensures { λ r. ⌜ r ≡ formOf (exprKind (kindAt (now (rows .entry)) i)) (sideAt (now (rows .entry)) i) ⌝ }
+    ensures { λ r. ⌜ r ≡ formOf (exprClass (kindAt (now (rows .entry)) i)) (sideAt (now (rows .entry)) i) ⌝ }
 {
     form_of(
-        kinds::expr_kind(table::kind_at(rows, i)),
+        kinds::expr_class(table::kind_at(rows, i)),
         table::side_at(rows, i),
     )
 }
@@ -333,9 +345,9 @@ fn operands_of(rows: &[u32], i: usize, to: usize) -> Places
 }
 
 // A row whose operands are not looked at one by one: a call that writes, or what the reference test decides.
-fn whole(rows: &[u32], local: usize, form: Form, from: usize, to: usize) -> Outcome
+fn whole(rows: &[u32], local: usize, form: Form, from: usize, to: usize) -> RowEffect
     requires { ⌜ Nested (now rows) from to ⌝ }
-    ensures { λ r. ⌜ r ≡ combined form (refers Skipped local (tree (now (rows .entry)) from to)) noOutcome noOutcome noOutcome ⌝ }
+    ensures { λ r. ⌜ r ≡ combined form (refers Skipped local (tree (now (rows .entry)) from to)) noEffect noEffect noEffect ⌝ }
 {
     let none = nothing();
     if is_vetted(form) {
@@ -345,15 +357,19 @@ fn whole(rows: &[u32], local: usize, form: Form, from: usize, to: usize) -> Outc
     combine(form, false, none, none, none)
 }
 
-// The effect of the first of the rows from `from` up to `to`, and what its operands write on each outcome. The operands are
-// asked for effect and writing at once, by `expr_writes_when`, which asks this function for the effect of the same row.
-pub fn expr_da(rows: &[u32], local: usize, from: usize, to: usize) -> Outcome
+// The effect of the first of the rows from `from` up to `to`, and what its operands write. The operands are asked for effect
+// and writing at once, by `expr_writes_when`, which asks this function for the effect of the same row.
+pub fn expr_da(rows: &[u32], local: usize, from: usize, to: usize) -> RowEffect
     requires { ⌜ Nested (now rows) from to ⌝ }
     ensures { λ r. ⌜ r ≡ unguarded local (tree (now (rows .entry)) from to) ⌝ }
-    ensures told { λ r. ⌜ EffectTold local (tree (now (rows .entry)) from to) (r .effect) ⌝ }
+    ensures told { λ r. ⌜ DaTold local (tree (now (rows .entry)) from to) (r .effect) ⌝ }
 {
     if to <= from {
-        return nothing();
+        return RowEffect {
+            effect: ExprDa::Clean,
+            operands_true: false,
+            operands_false: false,
+        };
     }
     let operands = operands_of(rows, from, to);
     let form = operands.form;
@@ -369,10 +385,10 @@ pub fn expr_da(rows: &[u32], local: usize, from: usize, to: usize) -> Outcome
 
 // The effect of the first of the rows from `from` up to `to`, and whether the local is written once its value is true, and
 // once it is false.
-pub fn expr_writes_when(rows: &[u32], local: usize, from: usize, to: usize) -> Outcome
+pub fn expr_writes_when(rows: &[u32], local: usize, from: usize, to: usize) -> ExprEffect
     requires { ⌜ Nested (now rows) from to ⌝ }
-    ensures { λ r. ⌜ r ≡ outcomeOf local (tree (now (rows .entry)) from to) 0 ⌝ }
-    ensures told { λ r. ⌜ OutcomeTold local (tree (now (rows .entry)) from to) r ⌝ }
+    ensures { λ r. ⌜ r ≡ exprEffectOf local (tree (now (rows .entry)) from to) 0 ⌝ }
+    ensures told { λ r. ⌜ EffectTold local (tree (now (rows .entry)) from to) r ⌝ }
 {
     guard(expr_da(rows, local, from, to))
 }

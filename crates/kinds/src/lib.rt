@@ -5,7 +5,7 @@ ghost use mathlib.Core.List.{List, _∷_, map};
 ghost use Prim.Native.Nat.{ℕ};
 ghost use Rattle.kinds.specs.Kinds.{Item, Sides, kinds as kindList, inClass, S, sideFits, takes};
 ghost use Rattle.kinds.specs.Words.{kindOf};
-ghost use Rattle.kinds.specs.Named.{exprKind};
+ghost use Rattle.kinds.specs.Named.{exprClass};
 ghost use Rattle.kinds.specs.Numbers.{numbers, sidesNumber, itemsNumber, sideBelow, ofFirst, takesFirst, repeatsFirst, restFirst, afterFirst, letters, key, twelveFrom, KeyTold, KindTold};
 
 // What the table holds of a kind: how many side numbers it has, 0 for as many as there are names, and its children, four
@@ -22,7 +22,7 @@ pub enum Found {
 }
 
 // The kinds that the rules of expressions and targets name.
-pub enum ExprKind {
+pub enum ExprClass {
     Ident,
     Call,
     Lident,
@@ -410,20 +410,20 @@ pub fn is_statement(kind: usize) -> bool
 }
 
 // What the rules of expressions and targets call a kind.
-pub fn expr_kind(kind: usize) -> ExprKind
-    ensures { λ r. ⌜ r ≡ exprKind kind ⌝ }
+pub fn expr_class(kind: usize) -> ExprClass
+    ensures { λ r. ⌜ r ≡ exprClass kind ⌝ }
 {
     match kind {
-        7 => ExprKind::Event,
-        41 => ExprKind::Ident,
-        42 => ExprKind::Unary,
-        43 => ExprKind::Binary,
-        44 => ExprKind::Ternary,
-        54 => ExprKind::Call,
-        55 => ExprKind::Paren,
-        59 => ExprKind::Opaque,
-        60 => ExprKind::Lident,
-        _ => ExprKind::Other,
+        7 => ExprClass::Event,
+        41 => ExprClass::Ident,
+        42 => ExprClass::Unary,
+        43 => ExprClass::Binary,
+        44 => ExprClass::Ternary,
+        54 => ExprClass::Call,
+        55 => ExprClass::Paren,
+        59 => ExprClass::Opaque,
+        60 => ExprClass::Lident,
+        _ => ExprClass::Other,
     }
 }
 

@@ -4,11 +4,12 @@ use mathlib.Core.List.{List, [], _∷_, _++_}
 use Prim.Native.Nat.{ℕ}
 use Rattle.paths.specs.Marks.{Mark, full, _⊑_, ⊑-refl, ⊑-trans, ⊑-full}
 use Rattle.paths.specs.Commands.{PathEvent, read, write, outside, choice, Ending, falls, stops, leaves, again, Jump, out-of-loop, out-of-round, Command, skip, emit, exit, seq, alt, star, catch, caught, Elsewhere, Runs, run-stop, run-skip, run-emit, run-emit-stop, run-exit, run-seq, run-off, run-left, run-right, run-none, run-more, run-catch}
-use Rattle.paths.specs.Triples.{Fine, after, Good, Claim, at, never, Holds, Ends, Triple}
+use Rattle.paths.specs.Silence.{NotRead, Silent}
+use Rattle.paths.specs.Triples.{Fine, writtenAfter, Good, Claim, at, never, Holds, Ends, Triple}
 
 -- Lists of events
 
-grows : (e : PathEvent) (w : Mark) → w ⊑ after e w
+grows : (e : PathEvent) (w : Mark) → w ⊑ writtenAfter e w
 grows read w = ⊑-refl
 grows outside w = ⊑-refl
 grows write w = ⊑-full
@@ -17,11 +18,11 @@ grows (choice n) w = ⊑-refl
 -- what is written stays written, so the claim at the end may use it
 good-map : (a : Mark) (t : List PathEvent) (P Q : Mark → Type 0) (w : Mark) → a ⊑ w → ((v : Mark) → a ⊑ v → P v → Q v) → Good t P w → Good t Q w
 good-map a [] P Q w p f g = f w p g
-good-map a (e ∷ t) P Q w p f g = (g .0, good-map a t P Q (after e w) (⊑-trans p (grows e w)) f (g .1))
+good-map a (e ∷ t) P Q w p f g = (g .0, good-map a t P Q (writtenAfter e w) (⊑-trans p (grows e w)) f (g .1))
 
 good-append : (s t : List PathEvent) (P Q : Mark → Type 0) (w : Mark) → ((v : Mark) → P v → Good t Q v) → Good s P w → Good (s ++ t) Q w
 good-append [] t P Q w f g = f w g
-good-append (e ∷ s) t P Q w f g = (g .0, good-append s t P Q (after e w) f (g .1))
+good-append (e ∷ s) t P Q w f g = (g .0, good-append s t P Q (writtenAfter e w) f (g .1))
 
 fine-full : (e : PathEvent) (w : Mark) → full ⊑ w → Fine e w
 fine-full read w p = p
@@ -29,13 +30,24 @@ fine-full outside w p = p
 fine-full write w p = tt
 fine-full (choice n) w p = tt
 
-good-full : (t : List PathEvent) (P : Mark → Type 0) (w : Mark) → full ⊑ w → ((v : Mark) → full ⊑ v → P v) → Good t P w
+pub good-full : (t : List PathEvent) (P : Mark → Type 0) (w : Mark) → full ⊑ w → ((v : Mark) → full ⊑ v → P v) → Good t P w
 good-full [] P w p f = f w p
-good-full (e ∷ t) P w p f = (fine-full e w p, good-full t P (after e w) (⊑-trans p (grows e w)) f)
+good-full (e ∷ t) P w p f = (fine-full e w p, good-full t P (writtenAfter e w) (⊑-trans p (grows e w)) f)
+
+-- without a read, every list is good
+fine-silent : (e : PathEvent) (w : Mark) → NotRead e → Fine e w
+fine-silent read w n = absurd n
+fine-silent outside w n = absurd n
+fine-silent write w n = tt
+fine-silent (choice m) w n = tt
+
+pub good-silent : (a : Mark) (t : List PathEvent) (P : Mark → Type 0) (w : Mark) → a ⊑ w → Silent t → ((v : Mark) → a ⊑ v → P v) → Good t P w
+good-silent a [] P w p h f = f w p
+good-silent a (e ∷ t) P w p h f = (fine-silent e w (h .0), good-silent a t P (writtenAfter e w) (⊑-trans p (grows e w)) (h .1) f)
 
 good-never : (t : List PathEvent) (w : Mark) → Good t (λ v. ⊥) w → ⊥
 good-never [] w g = g
-good-never (e ∷ t) w g = good-never t (after e w) (g .1)
+good-never (e ∷ t) w g = good-never t (writtenAfter e w) (g .1)
 
 -- Claims
 
@@ -127,7 +139,7 @@ rule-skip {a} {jump} = record { go = go }
     go w p _ _ run-stop = tt
     go w p _ _ run-skip = p
 
-rule-emit : (e : PathEvent) {a b : Mark} {jump : Claim} → ((w : Mark) → a ⊑ w → Fine e w × (b ⊑ after e w)) → Triple a (emit e) (at b) jump
+rule-emit : (e : PathEvent) {a b : Mark} {jump : Claim} → ((w : Mark) → a ⊑ w → Fine e w × (b ⊑ writtenAfter e w)) → Triple a (emit e) (at b) jump
 rule-emit e {a} {b} {jump} f = record { go = go }
   where
     go : (w : Mark) → a ⊑ w → (t : List PathEvent) (o : Ending) → Runs (emit e) t o → Good t (Ends (at b) jump o) w

@@ -10,9 +10,8 @@ use Rattle.table.specs.Rows.{Forest, nil, node}
 use Rattle.table.specs.Fold.{fold, nth, tail}
 use Rattle.kinds.specs.Kinds.{kinds}
 use Rattle.kinds.specs.Words.{same, placeFrom, kindOf}
-use Rattle.kinds.specs.Named.{numberOf, numbered, exprKind}
-use Rattle.reads.specs.Mentions.{names, begins}
-use Rattle.reads.specs.NoRef.{count, segments, isLocal}
+use Rattle.kinds.specs.Named.{kindNumber, numbered, exprClass}
+use Rattle.reads.specs.PathRows.{isNamed, begins, count, segments, isLocal}
 use Rattle.paths.specs.Commands.{PathEvent, read, write, choice, falls, stops, Command, Runs}
 use Rattle.paths.specs.Evaluation.{Truth, is-true, is-false, Evaluation, noEvaluation, evaluationAt, evaluations}
 use Rattle.paths.proofs.Prefixes.{prefix}
@@ -129,7 +128,7 @@ pub record Case : Type 0 where
 abbrev pub commandOf : Case → Command
 commandOf c = evaluatedAs (c .way) (nth noEvaluation 0 (evaluations x (c .what nil)))
 
--- an expression has no loops, so no rounds are listed
+-- no rounds are listed, since an expression has no loops
 abbrev pub shown : Case → List Run
 shown c = shortened (c .extent) (listed 0 (commandOf c))
 
@@ -167,6 +166,8 @@ truths =
     isFalse W ((write ∷ choice 0 ∷ []) ∷ []) ∷
     value W ((write ∷ []) ∷ []) ∷
     isTrue (plus W X) ((write ∷ read ∷ choice 1 ∷ []) ∷ []) ∷
+    isFalse (plus W X) ((write ∷ read ∷ choice 0 ∷ []) ∷ []) ∷
+    isTrue (minus X) ((read ∷ choice 1 ∷ []) ∷ []) ∷
     isFalse (minus X) ((read ∷ choice 0 ∷ []) ∷ []) ∷
     []
 
@@ -216,6 +217,7 @@ abbrev conditionals : List Case
 conditionals =
     value (ternary Y X W) ((choice 1 ∷ read ∷ []) ∷ (choice 0 ∷ write ∷ []) ∷ []) ∷
     isTrue (ternary Y X W) ((choice 1 ∷ read ∷ choice 1 ∷ []) ∷ (choice 0 ∷ write ∷ choice 1 ∷ []) ∷ []) ∷
+    isFalse (ternary Y X W) ((choice 1 ∷ read ∷ choice 0 ∷ []) ∷ (choice 0 ∷ write ∷ choice 0 ∷ []) ∷ []) ∷
     value (ternary X Y lit) ((read ∷ choice 1 ∷ []) ∷ (read ∷ choice 0 ∷ []) ∷ []) ∷
     value (ternary (and! Y X) lit W) ((choice 1 ∷ read ∷ choice 1 ∷ []) ∷ (choice 0 ∷ write ∷ []) ∷ (choice 1 ∷ read ∷ choice 0 ∷ write ∷ []) ∷ []) ∷
     []
@@ -238,6 +240,7 @@ calls s =
     value (call s (x ∷ []) (W ∷ [])) ((read ∷ write ∷ []) ∷ []) ∷
     value (call s (x ∷ y ∷ []) []) ((read ∷ []) ∷ []) ∷
     value (call s (y ∷ x ∷ []) []) ([] ∷ []) ∷
+    isTrue (call s [] (X ∷ [])) ((read ∷ choice 1 ∷ []) ∷ []) ∷
     isFalse (call s [] (X ∷ [])) ((read ∷ choice 0 ∷ []) ∷ []) ∷
     []
 
@@ -250,6 +253,7 @@ idents =
     value (ident []) ([] ∷ []) ∷
     value opaque ((read ∷ []) ∷ []) ∷
     isTrue opaque ((read ∷ choice 1 ∷ []) ∷ []) ∷
+    isFalse opaque ((read ∷ choice 0 ∷ []) ∷ []) ∷
     []
 
 -- "everything else evaluates its children in row order"
@@ -265,6 +269,7 @@ abbrev ordered : String → List Case
 ordered word =
     value (row word 0 (W ∷ X ∷ Y ∷ [])) ((write ∷ read ∷ []) ∷ []) ∷
     isTrue (row word 0 (X ∷ opaque ∷ W ∷ [])) ((read ∷ read ∷ write ∷ choice 1 ∷ []) ∷ []) ∷
+    isFalse (row word 0 (X ∷ opaque ∷ W ∷ [])) ((read ∷ read ∷ write ∷ choice 0 ∷ []) ∷ []) ∷
     []
 
 -- "Cast type names ... don't" read, and are no rows; the size is evaluated
@@ -330,7 +335,7 @@ cases =
 
 -- The joint fact: what is listed of each row is what is expected of it, no more, no less, and in this order.
 pub joint : map shown cases ≡ map (λ c. c .expected) cases
-unfolding fold evaluationAt exprKind numbered numberOf kindOf placeFrom kinds same names begins count segments isLocal listed eachFollowed followed
+unfolding fold evaluationAt exprClass numbered kindNumber kindOf placeFrom kinds same isNamed begins count segments isLocal listed eachFollowed followed
 joint = refl
 
 -- So each of them can happen
@@ -356,7 +361,7 @@ must-run = expected-run cases joint
 -- and, of a row that is evaluated to its end, nothing else can
 
 joint-straight : map (λ c. straight (commandOf c)) cases ≡ map (λ c. true) cases
-unfolding fold evaluationAt exprKind numbered numberOf kindOf placeFrom kinds same names begins count segments isLocal straight
+unfolding fold evaluationAt exprClass numbered kindNumber kindOf placeFrom kinds same isNamed begins count segments isLocal straight
 joint-straight = refl
 
 abbrev OnlyBy : Extent → Command → List Run → Type 0

@@ -1,16 +1,15 @@
--- How an expression is evaluated: document 01, "How a path runs", and the clauses of IEEE 1800 that fix it. Definitions only.
--- Nothing here is written from the Rust.
+-- How an expression is evaluated: document 01, "How a path runs", with the clauses of IEEE 1800 that fix it in brackets.
+-- Definitions only. Nothing here is written from the Rust.
 use mathlib.Core.List.{List, [], _∷_}
 use mathlib.Core.Bool.{Bool, true, false, cond}
 use Prim.Native.Nat.{ℕ}
 use lib.Dec.{eqb}
 use Rattle.table.specs.Rows.{Forest}
 use Rattle.table.specs.Fold.{Alg, fold, nth}
-use Rattle.kinds.specs.declared.ExprKind.{ExprKind}
-use Rattle.kinds.specs.declared.ExprKind.the-variants.{Ident, Call, Lident, Opaque, Event, Unary, Binary, Ternary, Paren, Other}
-use Rattle.kinds.specs.Named.{exprKind}
-use Rattle.reads.specs.Mentions.{begins}
-use Rattle.reads.specs.NoRef.{isLocal}
+use Rattle.kinds.specs.declared.ExprClass.{ExprClass}
+use Rattle.kinds.specs.declared.ExprClass.the-variants.{Ident, Call, Lident, Opaque, Event, Unary, Binary, Ternary, Paren, Other}
+use Rattle.kinds.specs.Named.{exprClass}
+use Rattle.reads.specs.PathRows.{begins, isLocal}
 use Rattle.paths.specs.Commands.{read, write, choice, Command, skip, emit, seq, alt}
 
 -- what the truth of a condition comes out as, on a path
@@ -22,6 +21,7 @@ abbrev pub choiceOf : Truth → ℕ
 choiceOf is-false = 0
 choiceOf is-true = 1
 
+-- "`!` flips" (11.4.7)
 abbrev pub opposite : Truth → Truth
 opposite is-true = is-false
 opposite is-false = is-true
@@ -57,11 +57,12 @@ either l r is-false = seq (l .truth is-false) (r .truth is-false)
 abbrev pub conditional : Evaluation → Evaluation → Evaluation → Command
 conditional c a b = alt (seq (c .truth is-true) (a .value)) (seq (c .truth is-false) (b .value))
 
--- "everything else evaluates its children in row order" (11.3, 11.4.12 and 11.5 fix no other order)
+-- "everything else evaluates its children in row order" (11.3.5: all operands are evaluated; the order is left open)
 abbrev pub inOrder : List Evaluation → Command
 inOrder [] = skip
 inOrder (e ∷ es) = seq (e .value) (inOrder es)
 
+-- a read, or a write, where the test says so
 abbrev pub readIf : Bool → Command
 readIf true = emit read
 readIf false = skip
@@ -70,7 +71,7 @@ abbrev pub writeIf : Bool → Command
 writeIf true = emit write
 writeIf false = skip
 
--- "then the write if the target is the plain local"; a select of it, or a longer path, is neither read nor written (10.4)
+-- "then the write if the target is the plain local"; "a select of it, or a longer path, is neither read nor written" (10.4)
 abbrev pub target : Bool → Evaluation
 target plain = record { value = skip; truth = free skip .truth; store = writeIf plain }
 
@@ -78,11 +79,11 @@ target plain = record { value = skip; truth = free skip .truth; store = writeIf 
 abbrev pub noEvaluation : Evaluation
 noEvaluation = free skip
 
--- `!` flips (11.4.7); every other unary operator evaluates its operand (11.4.9)
+-- side 1 is `!`; every other unary operator evaluates its operand (11.3.5)
 abbrev pub unary : ℕ → List Evaluation → Evaluation
 unary s es = cond (eqb s 1) (asked (λ t. nth noEvaluation 0 es .truth (opposite t))) (free (nth noEvaluation 0 es .value))
 
--- side 1 is &&, 2 is ||; every other binary operator evaluates both operands
+-- side 1 is &&, 2 is ||; every other binary operator evaluates both operands (11.3.5)
 abbrev pub binary : ℕ → List Evaluation → Evaluation
 binary s es =
     cond (eqb s 1) (asked (both (nth noEvaluation 0 es) (nth noEvaluation 1 es)))
@@ -93,9 +94,10 @@ binary s es =
 abbrev pub call : Bool → ℕ → List Evaluation → Evaluation
 call headed s es = cond (eqb s 1) (free (emit write)) (free (seq (readIf headed) (inOrder es)))
 
--- a row from its kind, side, children and the children's evaluations: "An ident whose first segment is the local reads; so
--- does opaque"; "paren passes"
-abbrev pub evaluationOf : ℕ → ExprKind → ℕ → Forest → List Evaluation → Evaluation
+-- a row from its class, side, children and the children's evaluations: "An ident whose first segment is the local reads; so
+-- does opaque" (11.5); "paren passes" (11.3.2); an event evaluates its expression and its iff (9.4.2, 9.4.2.3); selects,
+-- concatenations and the rest their operands (11.4.12, 11.5.1)
+abbrev pub evaluationOf : ℕ → ExprClass → ℕ → Forest → List Evaluation → Evaluation
 evaluationOf x Ident s cs es = free (readIf (begins x cs))
 evaluationOf x Opaque s cs es = free (emit read)
 evaluationOf x Unary s cs es = unary s es
@@ -108,7 +110,7 @@ evaluationOf x Event s cs es = free (inOrder es)
 evaluationOf x Other s cs es = free (inOrder es)
 
 unfoldable pub evaluationAt : ℕ → Alg Evaluation
-evaluationAt x k s lo hi cs es = evaluationOf x (exprKind k) s cs es
+evaluationAt x k s lo hi cs es = evaluationOf x (exprClass k) s cs es
 
 -- the evaluation of each of these siblings, for the local x
 abbrev pub evaluations : ℕ → Forest → List Evaluation

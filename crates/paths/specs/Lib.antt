@@ -3,3 +3,4 @@ pub mod Commands
 pub mod Triples
 pub mod Evaluation
 pub mod Evaluates
+pub mod Silence

@@ -23,7 +23,7 @@ isFull a = a
 -- what `a` says is written, `b` says too
 infix 40 _⊑_
 pub record _⊑_ (a b : Mark) : Type 0 where
-  pub keeps : T (isFull a) → T (isFull b)
+  keeps : T (isFull a) → T (isFull b)
 
 pub full-is-full : isFull full ≡ true
 unfolding isFull full

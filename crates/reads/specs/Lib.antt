@@ -1,2 +1,4 @@
+pub mod PathRows
 pub mod Mentions
 pub mod NoRef
+pub mod Iffs

@@ -1,12 +1,13 @@
 // The reference test: one flat pass over the rows of a range, and its uses by their names in da/reads.rs.
-use kinds::ExprKind;
+use kinds::ExprClass;
 ghost use mathlib.Core.Path.{_≡_};
 ghost use Prim.Native.Nat.{_+_, _*_, _<_};
 ghost use lib.ListN.{length};
-ghost use Rattle.kinds.specs.Named.{exprKind};
-ghost use Rattle.table.specs.Rows.{Nested, tree, kindAt, endAt};
-ghost use Rattle.reads.specs.Mentions.{begins, mentions, passesIff, mentionIn, MentionTold};
-ghost use Rattle.reads.specs.NoRef.{exprNoRef, lvalueNoRef, sensitivityNoRef, intraEventNoRef, stmtNoRef, vetted, two-segments, segments as segmentsOf};
+ghost use Rattle.kinds.specs.Named.{exprClass};
+ghost use Rattle.table.specs.Rows.{Nested, tree, kindAt};
+ghost use Rattle.reads.specs.PathRows.{begins, segments as segmentsOf};
+ghost use Rattle.reads.specs.Mentions.{hasPath, isOpaque, isEvent, mentionsAt, skipsIff, mentionIn, MentionTold};
+ghost use Rattle.reads.specs.NoRef.{exprNoRef, lvalueNoRef, sensitivityNoRef, intraEventNoRef, stmtNoRef, vetted, two-segments};
 
 // Whether the iff of an event is looked at.
 pub enum Iff {
@@ -18,6 +19,60 @@ pub enum Iff {
 pub enum Mention {
     At(usize),
     Nowhere,
+}
+
+// Kinds that are a mention where their path begins with the local.
+fn has_path(kind: ExprClass) -> bool
+    ensures { λ r. ⌜ r ≡ hasPath kind ⌝ }
+{
+    match kind {
+        ExprClass::Ident => true,
+        ExprClass::Call => true,
+        ExprClass::Lident => true,
+        ExprClass::Opaque => false,
+        ExprClass::Event => false,
+        ExprClass::Unary => false,
+        ExprClass::Binary => false,
+        ExprClass::Ternary => false,
+        ExprClass::Paren => false,
+        ExprClass::Other => false,
+    }
+}
+
+// The kind that is always a mention.
+fn is_opaque(kind: ExprClass) -> bool
+    ensures { λ r. ⌜ r ≡ isOpaque kind ⌝ }
+{
+    match kind {
+        ExprClass::Opaque => true,
+        ExprClass::Ident => false,
+        ExprClass::Call => false,
+        ExprClass::Lident => false,
+        ExprClass::Event => false,
+        ExprClass::Unary => false,
+        ExprClass::Binary => false,
+        ExprClass::Ternary => false,
+        ExprClass::Paren => false,
+        ExprClass::Other => false,
+    }
+}
+
+// The kind that has an iff.
+fn is_event(kind: ExprClass) -> bool
+    ensures { λ r. ⌜ r ≡ isEvent kind ⌝ }
+{
+    match kind {
+        ExprClass::Event => true,
+        ExprClass::Ident => false,
+        ExprClass::Call => false,
+        ExprClass::Lident => false,
+        ExprClass::Opaque => false,
+        ExprClass::Unary => false,
+        ExprClass::Binary => false,
+        ExprClass::Ternary => false,
+        ExprClass::Paren => false,
+        ExprClass::Other => false,
+    }
 }
 
 // Whether the first of the rows from `from` up to `to` is a path that begins with the local.
@@ -39,45 +94,25 @@ pub fn begins_with(rows: &[u32], local: usize, from: usize, to: usize) -> bool
 // Whether row i, the first of the rows i up to `to`, is itself a mention.
 fn is_mention(rows: &[u32], local: usize, i: usize, to: usize) -> bool
     requires { ⌜ (Nested (now rows) i to) × (i < to) ⌝ }
-    ensures { λ r. ⌜ r ≡ mentions local (exprKind (kindAt (now (rows .entry)) i)) (tree (now (rows .entry)) (i + 1) (endAt (now (rows .entry)) i)) ⌝ }
+    ensures { λ r. ⌜ r ≡ mentionsAt local (now (rows .entry)) i ⌝ }
 {
-    let kind = kinds::expr_kind(table::kind_at(rows, i));
+    let kind = kinds::expr_class(table::kind_at(rows, i));
     let end = table::row_end(rows, i, to);
-    match kind {
-        ExprKind::Ident => begins_with(rows, local, i + 1, end),
-        ExprKind::Call => begins_with(rows, local, i + 1, end),
-        ExprKind::Lident => begins_with(rows, local, i + 1, end),
-        ExprKind::Opaque => true,
-        ExprKind::Event => false,
-        ExprKind::Unary => false,
-        ExprKind::Binary => false,
-        ExprKind::Ternary => false,
-        ExprKind::Paren => false,
-        ExprKind::Other => false,
+    if has_path(kind) {
+        return begins_with(rows, local, i + 1, end);
     }
+    is_opaque(kind)
 }
 
 // Whether row i is an event whose iff the pass leaves out.
-fn passes_iff(rows: &[u32], iff: Iff, i: usize) -> bool
+fn skips_iff(rows: &[u32], iff: Iff, i: usize) -> bool
     requires { ⌜ 5 * i + 4 < length (now rows) ⌝ }
-    ensures { λ r. ⌜ r ≡ passesIff iff (exprKind (kindAt (now (rows .entry)) i)) ⌝ }
+    ensures { λ r. ⌜ r ≡ skipsIff iff (exprClass (kindAt (now (rows .entry)) i)) ⌝ }
 {
     let Iff::Skipped = iff else {
         return false;
     };
-    let kind = kinds::expr_kind(table::kind_at(rows, i));
-    match kind {
-        ExprKind::Event => true,
-        ExprKind::Ident => false,
-        ExprKind::Call => false,
-        ExprKind::Lident => false,
-        ExprKind::Opaque => false,
-        ExprKind::Unary => false,
-        ExprKind::Binary => false,
-        ExprKind::Ternary => false,
-        ExprKind::Paren => false,
-        ExprKind::Other => false,
-    }
+    is_event(kinds::expr_class(table::kind_at(rows, i)))
 }
 
 // The first mention among the rows from `from` up to `to`, in row order. At an event whose iff is skipped the pass looks at
@@ -89,7 +124,10 @@ pub fn first_mention(rows: &[u32], iff: Iff, local: usize, from: usize, to: usiz
 {
     let mut i = from;
     while i < to {
-        if passes_iff(rows, iff, i) {
+        if is_mention(rows, local, i, to) {
+            return Mention::At(i);
+        }
+        if skips_iff(rows, iff, i) {
             let end = table::row_end(rows, i, to);
             let next = table::next_at(rows, i + 1, end);
             let found = first_mention(rows, iff, local, i + 1, next);
@@ -98,9 +136,6 @@ pub fn first_mention(rows: &[u32], iff: Iff, local: usize, from: usize, to: usiz
             };
             i = end;
         } else {
-            if is_mention(rows, local, i, to) {
-                return Mention::At(i);
-            }
             i += 1;
         }
     }

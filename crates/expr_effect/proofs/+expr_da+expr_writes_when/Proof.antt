@@ -2,7 +2,7 @@ use Prim.Native.Nat.{ℕ, _<_, _+_, _-_, _*_}
 use borrow.Author.Needs.{needs}
 use native.Mathlib.Omega.{arith}
 use Rattle.expr_effect.proofs.Operands.{answers}
-use Rattle.expr_effect.proofs.Laws.{outcome-told, effect-told}
+use Rattle.expr_effect.proofs.Laws.{effect-told, da-told, none-told}
 use borrow.Fn.Kinds.{In}
 use borrow.Fn.PlainCycle.{Measures, is, falls, and}
 use Rattle.expr_effect.proofs.expr_da.Reads as expr-da
@@ -14,7 +14,6 @@ use Rattle.expr_effect.proofs.+expr_da+expr_writes_when.Lts-expr_writes
 use Rattle.expr_effect.proofs.combine.Reads as combine-reads
 use Rattle.expr_effect.proofs.guard.Reads as guard-reads
 use Rattle.expr_effect.proofs.is_whole.Reads as is-whole-reads
-use Rattle.expr_effect.proofs.nothing.Reads as nothing-reads
 use Rattle.expr_effect.proofs.operands_of.Reads as operands-of-reads
 use Rattle.expr_effect.proofs.whole.Reads as whole-reads
 use Rattle.expr_effect.proofs.+expr_da+expr_writes_when.{statement}
@@ -50,7 +49,7 @@ expr-writes-when-below t =
 
 -- what the callees ask and tell
 abbrev da-calls : ℕ → expr-da-lts.Claims
-da-calls t = (nothing-reads.Asked, nothing-reads.Learnt, operands-of-reads.Asked, operands-of-reads.Learnt, is-whole-reads.Asked, is-whole-reads.Learnt, whole-reads.Asked, whole-reads.Learnt, expr-writes-when-below t, expr-writes-when.Post, combine-reads.Asked, combine-reads.Learnt)
+da-calls t = (operands-of-reads.Asked, operands-of-reads.Learnt, is-whole-reads.Asked, is-whole-reads.Learnt, whole-reads.Asked, whole-reads.Learnt, expr-writes-when-below t, expr-writes-when.Post, combine-reads.Asked, combine-reads.Learnt)
 
 abbrev when-calls : ℕ → expr-writes-when-lts.Claims
 when-calls t = (expr-da-below t, expr-da.Post, guard-reads.Asked, guard-reads.Learnt)
@@ -59,22 +58,21 @@ pub +expr-da+expr-writes-when-spec : {M : Type 1} → statement M
 +expr-da+expr-writes-when-spec = close μ-expr-da μ-expr-writes-when (λ t. expr-da-lts.spec (da-calls t)
     (expr-da-at t)
     expr-da.Post
-    (λ c κs. search needs)
-    (λ c. (search answers, search (answers, effect-told)))
-    (λ c κs. search needs)
+    (λ c. (search answers, search none-told))
     (λ c κs. search needs)
     (λ c κs. search needs)
-    (λ c. (search answers, search (answers, effect-told)))
+    (λ c κs. search needs)
+    (λ c. (search answers, search (answers, da-told)))
     (λ c. search needs)
     (λ c κs. (search answers, search needs))
     (λ c κs. (search answers, search needs))
     (λ c κs. (search answers, search needs))
     (λ c κs. search needs)
-    (λ c. (search answers, search (answers, effect-told))))
+    (λ c. (search answers, search (answers, da-told))))
     λ t. expr-writes-when-lts.spec
     (expr-da-below t, expr-da.Post, guard-reads.Asked, guard-reads.Learnt)
     (expr-writes-when-at t)
     expr-writes-when.Post
     (λ c κs. (omega arith, search needs))
     (λ c κs. search needs)
-    (λ c. (search answers, search (answers, outcome-told)))
+    (λ c. (search answers, search (answers, effect-told)))

@@ -1,5 +1,5 @@
-use Rattle.reads.proofs.Answers.{mention-answers}
 use borrow.Author.Needs.{needs}
+use Rattle.reads.proofs.Answers.{kind-answers}
 use Rattle.reads.proofs.is_mention.Statement.{statement}
 use Rattle.reads.proofs.is_mention.Tie as tie
 
@@ -10,29 +10,9 @@ is-mention-spec =
     (λ c κs. search needs)
     (λ c κs. search needs)
     (λ c κs. search needs)
-    (λ c. search needs)
-    (λ c. search needs)
     (λ c κs. search needs)
     (λ c. search needs)
-    (λ c. search needs)
     (λ c κs. search needs)
-    (λ c. search needs)
-    (λ c. search needs)
+    (λ c. search kind-answers)
     (λ c κs. search needs)
-    (λ c. search needs)
-    (λ c. search needs)
-    (λ c. search needs)
-    (λ c. search needs)
-    (λ c. search needs)
-    (λ c. search needs)
-    (λ c. search needs)
-    (λ c. search mention-answers)
-    (λ c. search mention-answers)
-    (λ c. search mention-answers)
-    (λ c. search mention-answers)
-    (λ c. search mention-answers)
-    (λ c. search mention-answers)
-    (λ c. search mention-answers)
-    (λ c. search mention-answers)
-    (λ c. search mention-answers)
-    (λ c. search mention-answers))
+    (λ c. search kind-answers))

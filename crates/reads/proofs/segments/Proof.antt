@@ -2,7 +2,7 @@ use borrow.Author.Needs.{needs}
 use Prim.Native.Nat.{_+_, _-_, _≤_}
 use mathlib.Core.Path.{_≡_}
 use Rattle.table.specs.Rows.{tree, Nested}
-use Rattle.reads.specs.NoRef.{count, segments}
+use Rattle.reads.specs.PathRows.{count, segments}
 use Rattle.reads.proofs.Answers.{segments-answers}
 use Rattle.reads.proofs.segments.Statement.{statement}
 use Rattle.reads.proofs.segments.Tie as tie

@@ -1,9 +1,9 @@
 use Rattle.kinds.proofs.Named.{named}
-use Rattle.kinds.proofs.expr_kind.Statement.{statement}
-use Rattle.kinds.proofs.expr_kind.Tie as tie
+use Rattle.kinds.proofs.expr_class.Statement.{statement}
+use Rattle.kinds.proofs.expr_class.Tie as tie
 
-pub expr-kind-spec : {M : Type 1} → statement M
-expr-kind-spec =
+pub expr-class-spec : {M : Type 1} → statement M
+expr-class-spec =
     tie.close
     (tie.spec
     (λ c. search named)

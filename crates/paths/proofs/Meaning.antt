@@ -1,0 +1,37 @@
+-- What a triple says of a run: a read, and what counts as one, has a whole write before it.
+use mathlib.Core.List.{List, [], _∷_, _++_, append-nil}
+use Rattle.paths.specs.Marks.{Mark, full, none, _⊑_, ⊑-refl, none-not-full}
+use Rattle.paths.specs.Commands.{PathEvent, read, write, outside, choice, Ending, falls, Command, Runs}
+use Rattle.paths.specs.Triples.{Good, Claim, at, Ends, Triple}
+use Rattle.paths.specs.Silence.{NotRead}
+
+-- the list holds a write
+abbrev pub Written : List PathEvent → Type 0
+Written [] = ⊥
+Written (read ∷ s) = Written s
+Written (outside ∷ s) = Written s
+Written (write ∷ s) = Unit
+Written (choice n ∷ s) = Written s
+
+-- where what follows s can be good only if all is written, s holds a write
+good-written : (s u : List PathEvent) (P : Mark → Type 0) (w : Mark) → ((v : Mark) → Good u P v → full ⊑ v) → (full ⊑ w → ⊥) → Good (s ++ u) P w → Written s
+good-written [] u P w f n g = n (f w g)
+good-written (read ∷ s) u P w f n g = good-written s u P w f n (g .1)
+good-written (outside ∷ s) u P w f n g = good-written s u P w f n (g .1)
+good-written (write ∷ s) u P w f n g = tt
+good-written (choice m ∷ s) u P w f n g = good-written s u P w f n (g .1)
+
+read-needs : (e : PathEvent) (u : List PathEvent) (P : Mark → Type 0) → (NotRead e → ⊥) → (v : Mark) → Good (e ∷ u) P v → full ⊑ v
+read-needs read u P r v g = g .0
+read-needs outside u P r v g = g .0
+read-needs write u P r v g = absurd (r tt)
+read-needs (choice n) u P r v g = absurd (r tt)
+
+-- from nothing written: every read of every run has a write before it
+pub read-is-written : {c : Command} {next jump : Claim} (s u : List PathEvent) (e : PathEvent) (o : Ending) → Triple none c next jump → (NotRead e → ⊥) → Runs c (s ++ (e ∷ u)) o → Written s
+read-is-written {next = next} {jump = jump} s u e o h r x =
+    good-written s (e ∷ u) (Ends next jump o) none (read-needs e u (Ends next jump o) r) none-not-full (h .go none ⊑-refl (s ++ (e ∷ u)) o x)
+
+-- and where all is claimed to be written next, a run that goes on has written
+pub fall-is-written : {c : Command} {jump : Claim} (s : List PathEvent) → Triple none c (at full) jump → Runs c s falls → Written s
+fall-is-written {jump = jump} s h x = good-written s [] (Ends (at full) jump falls) none (λ v g. g) none-not-full (rw (append-nil s) (h .go none ⊑-refl s falls x))

@@ -1,0 +1,23 @@
+-- What reads nothing: no event of any run is a read, or counts as one. Definitions only.
+use mathlib.Core.List.{List, [], _∷_}
+use Rattle.paths.specs.Commands.{PathEvent, read, write, outside, choice, Ending, Command, Runs}
+use Rattle.paths.specs.Evaluation.{Evaluation, Truth}
+
+abbrev pub NotRead : PathEvent → Type 0
+NotRead read = ⊥
+NotRead outside = ⊥
+NotRead write = Unit
+NotRead (choice n) = Unit
+
+abbrev pub Silent : List PathEvent → Type 0
+Silent [] = Unit
+Silent (e ∷ t) = NotRead e × Silent t
+
+pub record NeverReads (c : Command) : Type 0 where
+  pub go : (t : List PathEvent) (o : Ending) → Runs c t o → Silent t
+
+-- however the row is evaluated
+pub record ReadsNothing (e : Evaluation) : Type 0 where
+  pub value : NeverReads (e .value)
+  pub truth : (t : Truth) → NeverReads (e .truth t)
+  pub store : NeverReads (e .store)

@@ -1,0 +1,25 @@
+-- The premise of demand 3 on iff: no event's iff refers to the local, where "to refer is to be or hold". Definitions only.
+use Prim.Native.Nat.{ℕ}
+use mathlib.Core.Bool.{Bool, true, _&&_, not}
+use mathlib.Core.List.{List, [], _∷_}
+use Rattle.table.specs.Rows.{Forest, rest}
+use Rattle.table.specs.Fold.{Alg, fold}
+use Rattle.kinds.specs.declared.ExprClass.{ExprClass}
+use Rattle.kinds.specs.Named.{exprClass}
+use Rattle.reads.specs.declared.Iff.the-variants.{Held}
+use Rattle.reads.specs.Mentions.{isEvent, refers}
+
+-- the rows after an event's expression, which are its iff, hold no mention
+unfoldable pub iffHere : ℕ → ExprClass → Forest → Bool
+iffHere x k cs = not (isEvent k && refers Held x (rest cs))
+
+unfoldable pub every : List Bool → Bool
+every [] = true
+every (b ∷ bs) = b && every bs
+
+unfoldable pub iffAt : ℕ → Alg Bool
+iffAt x k s lo hi cs bs = iffHere x (exprClass k) cs && every bs
+
+-- the premise of demand 3 on iff, of all rows of these siblings
+unfoldable pub iffQuiet : ℕ → Forest → Bool
+iffQuiet x f = every (fold (iffAt x) f)
