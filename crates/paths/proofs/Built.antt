@@ -113,41 +113,47 @@ module _ (P : PathEvent → Type 0) (pw : P write) (pc : (n : ℕ) → P (choice
   built-either true h k = h
   built-either false h k = k
 
-  module _ {l r : Evaluation} (h : EachBuilt P l) (k : EachBuilt P r) where
-    built-and : (t : Truth) → Built P (both l r t)
-    built-and is-true = of-seq (h .truth is-true) (k .truth is-true)
-    built-and is-false = of-alt (h .truth is-false) (of-seq (h .truth is-true) (k .truth is-false))
-
-    built-or : (t : Truth) → Built P (either l r t)
-    built-or is-true = of-alt (h .truth is-true) (of-seq (h .truth is-false) (k .truth is-true))
-    built-or is-false = of-seq (h .truth is-false) (k .truth is-false)
+  truth-built : {e : Evaluation} → EachBuilt P e → (t : Truth) → Built P (e .truth t)
+  truth-built h = h .truth
 
   built-in-order : {es : List Evaluation} → AllBuilt P es → Built P (inOrder es)
   built-in-order none-left = of-skip
-  built-in-order (and-more h hs) = of-seq (h .value) (built-in-order hs)
+  built-in-order (and-more h hs) = let k = built-in-order hs in search (of-seq)
 
   built-nth : {es : List Evaluation} (n : ℕ) → AllBuilt P es → EachBuilt P (nth noEvaluation n es)
   built-nth n none-left = built-free of-skip
   built-nth zero (and-more h hs) = h
   built-nth (suc n) (and-more h hs) = built-nth n hs
 
+  -- a command from its parts
+  ruleset parts = (of-skip, of-emit, of-seq, of-alt, built-read, built-write, built-in-order, truth-built)
+
+  module _ {l r : Evaluation} (h : EachBuilt P l) (k : EachBuilt P r) where
+    built-and : (t : Truth) → Built P (both l r t)
+    built-and is-true = search parts
+    built-and is-false = search parts
+
+    built-or : (t : Truth) → Built P (either l r t)
+    built-or is-true = search parts
+    built-or is-false = search parts
+
   module _ {es : List Evaluation} (x s : ℕ) (cs : Forest) (hs : AllBuilt P es) where
-    child : (n : ℕ) → EachBuilt P (nth noEvaluation n es)
-    child n = built-nth n hs
+    abbrev operand : (n : ℕ) → EachBuilt P (nth noEvaluation n es)
+    operand n = built-nth n hs
 
     built-class : (k : ExprClass) → (mentions x k cs ≡ true → P read) → EachBuilt P (evaluationOf x k s cs es)
-    built-class Ident q = built-free (built-read (begins x cs) q)
-    built-class Opaque q = built-free (of-emit (q refl))
-    built-class Unary q = built-either (eqb s 1) (built-asked (λ t. child 0 .truth (opposite t))) (built-free (child 0 .value))
+    built-class Ident q = built-free (search parts)
+    built-class Opaque q = let r = q refl in built-free (search parts)
+    built-class Unary q = built-either (eqb s 1) (built-asked (λ t. search (parts, operand 0))) (built-free (search (parts, operand 0)))
     built-class Binary q =
-        built-either (eqb s 1) (built-asked (built-and (child 0) (child 1)))
-        (built-either (eqb s 2) (built-asked (built-or (child 0) (child 1))) (built-free (of-seq (child 0 .value) (child 1 .value))))
-    built-class Ternary q = built-free (of-alt (of-seq (child 0 .truth is-true) (child 1 .value)) (of-seq (child 0 .truth is-false) (child 2 .value)))
-    built-class Call q = built-either (eqb s 1) (built-free (of-emit pw)) (built-free (of-seq (built-read (begins x cs) q) (built-in-order hs)))
-    built-class Paren q = child 0
-    built-class Lident q = record { value = of-skip; truth = built-free of-skip .truth; store = built-write (isLocal x cs) }
-    built-class Event q = built-free (built-in-order hs)
-    built-class Other q = built-free (built-in-order hs)
+        built-either (eqb s 1) (built-asked (built-and (operand 0) (operand 1)))
+        (built-either (eqb s 2) (built-asked (built-or (operand 0) (operand 1))) (built-free (search (parts, operand 0, operand 1))))
+    built-class Ternary q = built-free (search (parts, operand 0, operand 1, operand 2))
+    built-class Call q = built-either (eqb s 1) (built-free (search parts)) (built-free (search parts))
+    built-class Paren q = operand 0
+    built-class Lident q = record { value = search parts; truth = λ t. search parts; store = search parts }
+    built-class Event q = built-free (search parts)
+    built-class Other q = built-free (search parts)
 
   built : (x : ℕ) (f : Forest) → (refers Held x f ≡ true → P read) → AllBuilt P (evaluations x f)
   unfolding fold evaluationAt
