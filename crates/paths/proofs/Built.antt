@@ -13,13 +13,12 @@ use Rattle.kinds.specs.declared.ExprClass.the-variants.{Ident, Call, Lident, Op
 use Rattle.kinds.specs.Named.{exprClass}
 use Rattle.kinds.proofs.Below.{true-not-false}
 use Rattle.reads.specs.declared.Iff.the-variants.{Held}
-use Rattle.reads.specs.PathRows.{begins, isLocal}
 use Rattle.reads.specs.Mentions.{mentions, refers}
 use Rattle.reads.proofs.Trees.{refers-node, refers-row}
 use Rattle.paths.specs.Marks.{Mark, full, none, _⊑_}
 use Rattle.paths.specs.Commands.{PathEvent, read, write, choice, Ending, falls, stops, leaves, again, Command, skip, emit, seq, alt, Runs, run-stop, run-skip, run-emit, run-emit-stop, run-seq, run-off, run-left, run-right}
 use Rattle.paths.specs.Triples.{at, never, Ends, Triple}
-use Rattle.paths.specs.Evaluation.{Truth, is-true, is-false, choiceOf, opposite, Evaluation, free, asked, both, either, inOrder, readIf, writeIf, noEvaluation, evaluationOf, evaluationAt, evaluations}
+use Rattle.paths.specs.Evaluation.{Truth, is-true, is-false, choiceOf, Evaluation, free, asked, both, either, inOrder, readIf, writeIf, noEvaluation, evaluationOf, evaluationAt, evaluations}
 use Rattle.paths.specs.Evaluates.{Evaluates}
 use Rattle.paths.specs.Silence.{NotRead, Silent, ReadsNothing}
 use Rattle.paths.proofs.Rules.{good-full, good-silent}

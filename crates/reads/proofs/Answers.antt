@@ -1,6 +1,6 @@
 -- What the functions answer, from what stands in the code where they return.
 use Prim.Native.Nat.{ℕ, _+_, _≤_, _<_}
-use mathlib.Core.Path.{_≡_, refl, sym, _∙_}
+use mathlib.Core.Path.{_≡_, refl, sym, ap, _∙_}
 use mathlib.Core.Bool.{Bool, true, false, cond, _||_}
 use mathlib.Core.List.{List}
 use native.Mathlib.Omega.{arith}
@@ -13,12 +13,14 @@ use Rattle.kinds.specs.declared.ExprClass.{ExprClass}
 use Rattle.kinds.specs.Kinds.{kinds}
 use Rattle.kinds.specs.Words.{same, placeFrom, kindOf}
 use Rattle.kinds.specs.Named.{exprClass, kindNumber, numbered}
+use Rattle.reads.specs.declared.Role.{Role}
+use Rattle.reads.specs.declared.Role.the-variants.{ByPath}
 use Rattle.reads.specs.declared.Iff.{Iff}
 use Rattle.reads.specs.declared.Iff.the-variants.{Skipped}
 use Rattle.reads.specs.declared.Mention.{Mention}
 use Rattle.reads.specs.declared.Mention.the-variants.{At, Nowhere}
 use Rattle.reads.specs.PathRows.{isNamed, begins, count, segments}
-use Rattle.reads.specs.Mentions.{hasPath, isOpaque, isEvent, mentionsAt, skipsIff, mentionIn, MentionTold}
+use Rattle.reads.specs.Mentions.{roleOf, mentionsBy, hasIff, mentionsAt, skipsIff, mentionIn, MentionTold}
 use Rattle.reads.specs.NoRef.{exprNoRef, Vetting, nothing, children as all-children, two-segments, not-vetted, vetting, vetted, stmtNoRef}
 use Rattle.reads.proofs.Scan.{orElse, mention-none, mention-here, mention-row, mention-event, found-refers, nowhere-refers, mention-told}
 
@@ -38,19 +40,27 @@ module _ (x : ℕ) {rows : List ℕ} {from to e : ℕ} (g : Nested rows from to)
 
 pub ruleset begins-answers = (begins-none, begins-short, begins-some)
 
--- is_mention and skips_iff, by the kind that they found
-module _ (rows : List ℕ) (i n : ℕ) (k : ExprClass) (p : n ≡ kindAt rows i) (q : k ≡ exprClass n) where
-  module _ (x : ℕ) (b r : Bool) (h : b ≡ hasPath k) where
-    pub path-mentions : (to e : ℕ) → b ≡ true → RowEnd rows i to e → r ≡ begins x (tree rows (i + 1) e) → r ≡ mentionsAt x rows i
-    path-mentions to e y t v = rw (← p, ← q, ← h, y, ← t .is) v
+-- role_at
+pub role-row : (rows : List ℕ) (i n : ℕ) (k : ExprClass) (r : Role) → n ≡ kindAt rows i → k ≡ exprClass n → r ≡ roleOf k → r ≡ roleOf (exprClass (kindAt rows i))
+role-row rows i n k r p q v = v ∙ ap roleOf (q ∙ ap exprClass p)
 
-    pub opaque-mentions : b ≡ false → r ≡ isOpaque k → r ≡ mentionsAt x rows i
-    opaque-mentions y v = rw (← p, ← q, ← h, y) v
+-- is_mention and skips_iff, by the role that they found
+module _ (rows : List ℕ) (i : ℕ) (found role : Role) (r : Bool) (p : found ≡ roleOf (exprClass (kindAt rows i))) (q : found ≡ role) where
+  pub role-mentions : (x : ℕ) → r ≡ mentionsBy role (begins x (tree rows (i + 1) (endAt rows i))) → r ≡ mentionsAt x rows i
+  role-mentions x v = v ∙ ap (λ ρ. mentionsBy ρ (begins x (tree rows (i + 1) (endAt rows i)))) (sym q ∙ p)
 
-  pub event-skips : (iff : Iff) (r : Bool) → iff ≡ Skipped → r ≡ isEvent k → r ≡ skipsIff iff (exprClass (kindAt rows i))
-  event-skips iff r s v = rw (s, ← p, ← q) v
+  pub role-skips : (iff : Iff) → iff ≡ Skipped → r ≡ hasIff role → r ≡ skipsIff iff (exprClass (kindAt rows i))
+  role-skips iff s v = v ∙ rw s (ap hasIff (sym q ∙ p))
 
-pub ruleset kind-answers = (path-mentions, opaque-mentions, event-skips)
+pub path-mentions : (rows : List ℕ) (i : ℕ) (found : Role) (r : Bool) (x to e : ℕ)
+    → found ≡ roleOf (exprClass (kindAt rows i))
+    → found ≡ ByPath
+    → RowEnd rows i to e
+    → r ≡ begins x (tree rows (i + 1) e)
+    → r ≡ mentionsAt x rows i
+path-mentions rows i found r x to e p q t v = role-mentions rows i found ByPath r p q x (v ∙ rw (t .is))
+
+pub ruleset role-answers = (role-mentions, role-skips, path-mentions)
 
 -- first_mention: what its loop keeps is that the answer is that of the rows from i on
 module _ (iff : Iff) (x : ℕ) (rows : List ℕ) (from to i : ℕ) (v : mentionIn iff x rows from to ≡ mentionIn iff x rows i to) where

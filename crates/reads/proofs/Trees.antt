@@ -12,7 +12,7 @@ use Rattle.kinds.specs.Named.{exprClass}
 use Rattle.kinds.proofs.Below.{both-true}
 use Rattle.reads.specs.declared.Iff.{Iff}
 use Rattle.reads.specs.declared.Iff.the-variants.{Skipped, Held}
-use Rattle.reads.specs.Mentions.{isEvent, skipsIff, mentions, inRowOrder, passedOver, withoutIff, seenBelow, seenAt, seen, some, refers}
+use Rattle.reads.specs.Mentions.{roleOf, hasIff, skipsIff, mentions, inRowOrder, passedOver, withoutIff, seenBelow, seenAt, seen, some, refers}
 use Rattle.reads.specs.Iffs.{iffHere, every, iffAt, iffQuiet}
 
 some-append : (a b : List Bool) → some (a ++ b) ≡ some a || some b
@@ -114,7 +114,7 @@ row-same : (x k s lo hi : ℕ) (cs : Forest) → iffHere x (exprClass k) cs ≡ 
     → Pairwise SameSome (fold (seenAt Skipped x) cs) (fold (seenAt Held x) cs)
     → SameSome (seenAt Skipped x k s lo hi cs (fold (seenAt Skipped x) cs)) (seenAt Held x k s lo hi cs (fold (seenAt Held x) cs))
 unfolding seenAt some seenBelow iffHere refers seen
-row-same x k s lo hi cs h p = record { is = ap (λ b. mentions x (exprClass k) cs || b) (below-same x cs (isEvent (exprClass k)) h p) }
+row-same x k s lo hi cs h p = record { is = ap (λ b. mentions x (exprClass k) cs || b) (below-same x cs (hasIff (roleOf (exprClass k))) h p) }
 
 same-each : (x : ℕ) (f : Forest) → iffQuiet x f ≡ true → Pairwise SameSome (fold (seenAt Skipped x) f) (fold (seenAt Held x) f)
 unfolding fold

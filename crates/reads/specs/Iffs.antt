@@ -7,11 +7,11 @@ use Rattle.table.specs.Fold.{Alg, fold}
 use Rattle.kinds.specs.declared.ExprClass.{ExprClass}
 use Rattle.kinds.specs.Named.{exprClass}
 use Rattle.reads.specs.declared.Iff.the-variants.{Held}
-use Rattle.reads.specs.Mentions.{isEvent, refers}
+use Rattle.reads.specs.Mentions.{roleOf, hasIff, refers}
 
 -- the rows after an event's expression, which are its iff, hold no mention
 unfoldable pub iffHere : ℕ → ExprClass → Forest → Bool
-iffHere x k cs = not (isEvent k && refers Held x (rest cs))
+iffHere x k cs = not (hasIff (roleOf k) && refers Held x (rest cs))
 
 unfoldable pub every : List Bool → Bool
 every [] = true

@@ -10,53 +10,43 @@ use Rattle.kinds.specs.declared.ExprClass.{ExprClass}
 use Rattle.kinds.specs.declared.ExprClass.the-variants.{Ident, Call, Lident, Opaque, Event, Unary, Binary, Ternary, Paren, Other}
 use Rattle.kinds.specs.Named.{exprClass}
 use Rattle.reads.specs.PathRows.{begins}
+use Rattle.reads.specs.declared.Role.{Role}
+use Rattle.reads.specs.declared.Role.the-variants.{ByPath, Always, HasIff, Holds}
 use Rattle.reads.specs.declared.Iff.{Iff}
 use Rattle.reads.specs.declared.Iff.the-variants.{Skipped, Held}
 use Rattle.reads.specs.declared.Mention.{Mention}
 use Rattle.reads.specs.declared.Mention.the-variants.{At, Nowhere}
 
--- "an ident, call or lident whose path begins with the local": the kinds that are read by their path
-abbrev pub hasPath : ExprClass → Bool
-hasPath Ident = true
-hasPath Call = true
-hasPath Lident = true
-hasPath Opaque = false
-hasPath Event = false
-hasPath Unary = false
-hasPath Binary = false
-hasPath Ternary = false
-hasPath Paren = false
-hasPath Other = false
+-- "an ident, call or lident whose path begins with the local, or an opaque row", by the class of a row; an event has an iff;
+-- every other row refers by what it holds alone
+abbrev pub roleOf : ExprClass → Role
+roleOf Ident = ByPath
+roleOf Call = ByPath
+roleOf Lident = ByPath
+roleOf Opaque = Always
+roleOf Event = HasIff
+roleOf Unary = Holds
+roleOf Binary = Holds
+roleOf Ternary = Holds
+roleOf Paren = Holds
+roleOf Other = Holds
 
--- "or an opaque row": the kind that always refers
-abbrev pub isOpaque : ExprClass → Bool
-isOpaque Ident = false
-isOpaque Call = false
-isOpaque Lident = false
-isOpaque Opaque = true
-isOpaque Event = false
-isOpaque Unary = false
-isOpaque Binary = false
-isOpaque Ternary = false
-isOpaque Paren = false
-isOpaque Other = false
+-- whether a row of this role is itself a mention, by whether its path begins with the local
+abbrev pub mentionsBy : Role → Bool → Bool
+mentionsBy ByPath headed = headed
+mentionsBy Always headed = true
+mentionsBy HasIff headed = false
+mentionsBy Holds headed = false
 
--- "event E E?(iff)": the kind that has an iff
-abbrev pub isEvent : ExprClass → Bool
-isEvent Ident = false
-isEvent Call = false
-isEvent Lident = false
-isEvent Opaque = false
-isEvent Event = true
-isEvent Unary = false
-isEvent Binary = false
-isEvent Ternary = false
-isEvent Paren = false
-isEvent Other = false
+abbrev pub hasIff : Role → Bool
+hasIff ByPath = false
+hasIff Always = false
+hasIff HasIff = true
+hasIff Holds = false
 
--- "an ident, call or lident whose path begins with the local, or an opaque row": the row itself, by its kind and children
+-- the row itself, by its class and children
 abbrev pub mentions : ℕ → ExprClass → Forest → Bool
-mentions x k cs = cond (hasPath k) (begins x cs) (isOpaque k)
+mentions x k cs = mentionsBy (roleOf k) (begins x cs)
 
 -- the same, of row r
 abbrev pub mentionsAt : ℕ → List ℕ → ℕ → Bool
@@ -72,10 +62,10 @@ unfoldable pub passedOver : List Bool → List Bool
 passedOver [] = []
 passedOver (m ∷ ms) = false ∷ passedOver ms
 
--- "iff ignored" (the walk), or held ("to refer is to be or hold"): whether the iff of a row of this kind is left out
+-- "iff ignored" (the walk), or held ("to refer is to be or hold"): whether the iff of a row of this class is left out
 abbrev pub skipsIff : Iff → ExprClass → Bool
 skipsIff Held k = false
-skipsIff Skipped k = isEvent k
+skipsIff Skipped k = hasIff (roleOf k)
 
 -- what is seen of the rows below an event whose iff is left out; its first child is its expression
 abbrev pub withoutIff : List (List Bool) → List Bool

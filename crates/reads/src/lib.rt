@@ -6,7 +6,7 @@ ghost use lib.ListN.{length};
 ghost use Rattle.kinds.specs.Named.{exprClass};
 ghost use Rattle.table.specs.Rows.{Nested, tree, kindAt};
 ghost use Rattle.reads.specs.PathRows.{begins, segments as segmentsOf};
-ghost use Rattle.reads.specs.Mentions.{hasPath, isOpaque, isEvent, mentionsAt, skipsIff, mentionIn, MentionTold};
+ghost use Rattle.reads.specs.Mentions.{roleOf, mentionsAt, skipsIff, mentionIn, MentionTold};
 ghost use Rattle.reads.specs.NoRef.{exprNoRef, lvalueNoRef, sensitivityNoRef, intraEventNoRef, stmtNoRef, vetted, two-segments};
 
 // Whether the iff of an event is looked at.
@@ -15,64 +15,43 @@ pub enum Iff {
     Held,
 }
 
+// How a row refers: by the path that it has, always, by its expression and, where that is looked at, its iff, or only by what
+// it holds.
+enum Role {
+    ByPath,
+    Always,
+    HasIff,
+    Holds,
+}
+
 // Where the first mention of the local is.
 pub enum Mention {
     At(usize),
     Nowhere,
 }
 
-// Kinds that are a mention where their path begins with the local.
-fn has_path(kind: ExprClass) -> bool
-    ensures { λ r. ⌜ r ≡ hasPath kind ⌝ }
+fn role_of(class: ExprClass) -> Role
+    ensures { λ r. ⌜ r ≡ roleOf class ⌝ }
 {
-    match kind {
-        ExprClass::Ident => true,
-        ExprClass::Call => true,
-        ExprClass::Lident => true,
-        ExprClass::Opaque => false,
-        ExprClass::Event => false,
-        ExprClass::Unary => false,
-        ExprClass::Binary => false,
-        ExprClass::Ternary => false,
-        ExprClass::Paren => false,
-        ExprClass::Other => false,
+    match class {
+        ExprClass::Ident => Role::ByPath,
+        ExprClass::Call => Role::ByPath,
+        ExprClass::Lident => Role::ByPath,
+        ExprClass::Opaque => Role::Always,
+        ExprClass::Event => Role::HasIff,
+        ExprClass::Unary => Role::Holds,
+        ExprClass::Binary => Role::Holds,
+        ExprClass::Ternary => Role::Holds,
+        ExprClass::Paren => Role::Holds,
+        ExprClass::Other => Role::Holds,
     }
 }
 
-// The kind that is always a mention.
-fn is_opaque(kind: ExprClass) -> bool
-    ensures { λ r. ⌜ r ≡ isOpaque kind ⌝ }
+fn role_at(rows: &[u32], i: usize) -> Role
+    requires { ⌜ 5 * i + 4 < length (now rows) ⌝ }
+    ensures { λ r. ⌜ r ≡ roleOf (exprClass (kindAt (now (rows .entry)) i)) ⌝ }
 {
-    match kind {
-        ExprClass::Opaque => true,
-        ExprClass::Ident => false,
-        ExprClass::Call => false,
-        ExprClass::Lident => false,
-        ExprClass::Event => false,
-        ExprClass::Unary => false,
-        ExprClass::Binary => false,
-        ExprClass::Ternary => false,
-        ExprClass::Paren => false,
-        ExprClass::Other => false,
-    }
-}
-
-// The kind that has an iff.
-fn is_event(kind: ExprClass) -> bool
-    ensures { λ r. ⌜ r ≡ isEvent kind ⌝ }
-{
-    match kind {
-        ExprClass::Event => true,
-        ExprClass::Ident => false,
-        ExprClass::Call => false,
-        ExprClass::Lident => false,
-        ExprClass::Opaque => false,
-        ExprClass::Unary => false,
-        ExprClass::Binary => false,
-        ExprClass::Ternary => false,
-        ExprClass::Paren => false,
-        ExprClass::Other => false,
-    }
+    role_of(kinds::expr_class(table::kind_at(rows, i)))
 }
 
 // Whether the first of the rows from `from` up to `to` is a path that begins with the local.
@@ -96,12 +75,13 @@ fn is_mention(rows: &[u32], local: usize, i: usize, to: usize) -> bool
     requires { ⌜ (Nested (now rows) i to) × (i < to) ⌝ }
     ensures { λ r. ⌜ r ≡ mentionsAt local (now (rows .entry)) i ⌝ }
 {
-    let kind = kinds::expr_class(table::kind_at(rows, i));
-    let end = table::row_end(rows, i, to);
-    if has_path(kind) {
-        return begins_with(rows, local, i + 1, end);
+    let role = role_at(rows, i);
+    match role {
+        Role::ByPath => begins_with(rows, local, i + 1, table::row_end(rows, i, to)),
+        Role::Always => true,
+        Role::HasIff => false,
+        Role::Holds => false,
     }
-    is_opaque(kind)
 }
 
 // Whether row i is an event whose iff the pass leaves out.
@@ -112,7 +92,13 @@ fn skips_iff(rows: &[u32], iff: Iff, i: usize) -> bool
     let Iff::Skipped = iff else {
         return false;
     };
-    is_event(kinds::expr_class(table::kind_at(rows, i)))
+    let role = role_at(rows, i);
+    match role {
+        Role::HasIff => true,
+        Role::ByPath => false,
+        Role::Always => false,
+        Role::Holds => false,
+    }
 }
 
 // The first mention among the rows from `from` up to `to`, in row order. At an event whose iff is skipped the pass looks at

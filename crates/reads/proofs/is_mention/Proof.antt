@@ -1,5 +1,5 @@
 use borrow.Author.Needs.{needs}
-use Rattle.reads.proofs.Answers.{kind-answers}
+use Rattle.reads.proofs.Answers.{role-answers}
 use Rattle.reads.proofs.is_mention.Statement.{statement}
 use Rattle.reads.proofs.is_mention.Tie as tie
 
@@ -8,11 +8,14 @@ is-mention-spec =
     tie.close
     (tie.spec
     (λ c κs. search needs)
-    (λ c κs. search needs)
+    (λ c. search needs)
+    (λ c. search needs)
     (λ c κs. search needs)
     (λ c κs. search needs)
     (λ c. search needs)
-    (λ c κs. search needs)
-    (λ c. search kind-answers)
-    (λ c κs. search needs)
-    (λ c. search kind-answers))
+    (λ c. search needs)
+    (λ c. search needs)
+    (λ c. search role-answers)
+    (λ c. search role-answers)
+    (λ c. search role-answers)
+    (λ c. search role-answers))

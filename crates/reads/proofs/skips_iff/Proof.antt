@@ -1,5 +1,5 @@
 use borrow.Author.Needs.{needs}
-use Rattle.reads.proofs.Answers.{kind-answers}
+use Rattle.reads.proofs.Answers.{role-answers}
 use Rattle.reads.proofs.skips_iff.Statement.{statement}
 use Rattle.reads.proofs.skips_iff.Tie as tie
 
@@ -11,6 +11,11 @@ skips-iff-spec =
     (λ c. search needs)
     (λ c. search needs)
     (λ c κs. search needs)
-    (λ c κs. search needs)
-    (λ c κs. search needs)
-    (λ c. search kind-answers))
+    (λ c. search needs)
+    (λ c. search needs)
+    (λ c. search needs)
+    (λ c. search needs)
+    (λ c. search role-answers)
+    (λ c. search role-answers)
+    (λ c. search role-answers)
+    (λ c. search role-answers))
