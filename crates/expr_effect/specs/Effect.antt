@@ -17,17 +17,20 @@ use Rattle.expr_effect.specs.declared.RowEffect.{RowEffect}
 use Rattle.expr_effect.specs.declared.Form.{Form}
 use Rattle.expr_effect.specs.declared.Form.the-variants.{Inner, LogNot, Operand, LogAnd, LogOr, Operands, Arms, CallWrites, Vetted}
 
--- "unary E (side 1: logical not)", "binary E E (1: &&, 2: ||)", "A call's side is its effect: 1 writes"
+-- "unary E (side 1: logical not)"
 unfoldable pub unaryForm : ℕ → Form
 unaryForm s = cond (eqb s 1) LogNot Operand
 
+-- "binary E E (1: &&, 2: ||)"
 unfoldable pub binaryForm : ℕ → Form
 binaryForm s = cond (eqb s 1) LogAnd (cond (eqb s 2) LogOr Operands)
 
+-- "A call's side is its effect: 0 inert, 1 writes, 2 reads, 3 unknown": "Everything that is NOT the new write claim must answer
+-- what the pre-R19 walk answered", which is expr_no_ref
 unfoldable pub callForm : ℕ → Form
 callForm s = cond (eqb s 1) CallWrites Vetted
 
--- the arms of the match in expr_da, by kind and side
+-- the arms of the match in expr_da, by class and side
 abbrev pub formOf : ExprClass → ℕ → Form
 formOf Paren s = Inner
 formOf Unary s = unaryForm s
@@ -72,7 +75,7 @@ oneArm Clean Reads = Reads
 oneArm Clean Writes = Clean
 oneArm Clean Clean = Clean
 
--- K::Ternary
+-- K::Ternary, "match sub(cond)": the condition is evaluated first, and always
 abbrev pub afterCond : ExprDa → ExprDa → ExprDa
 afterCond Writes arms = Writes
 afterCond Reads arms = Reads
@@ -161,11 +164,11 @@ noRowEffect = record { effect = Clean; «operands_true» = false; «operands_fal
 
 -- a row, from the effects of its children
 abbrev pub rowEffect : ℕ → ℕ → ℕ → ℕ → ℕ → Forest → List ExprEffect → RowEffect
-rowEffect x k s lo hi cs os =
-    combined (formOf (exprClass k) s) (refers Skipped x (node k s lo hi cs nil)) (nth noEffect 0 os) (nth noEffect 1 os) (nth noEffect 2 os)
+rowEffect x k s lo hi cs es =
+    combined (formOf (exprClass k) s) (refers Skipped x (node k s lo hi cs nil)) (nth noEffect 0 es) (nth noEffect 1 es) (nth noEffect 2 es)
 
 unfoldable pub exprEffectAt : ℕ → Alg ExprEffect
-exprEffectAt x k s lo hi cs os = guarded (rowEffect x k s lo hi cs os)
+exprEffectAt x k s lo hi cs es = guarded (rowEffect x k s lo hi cs es)
 
 -- of each of these siblings: the effect, and the writing on either outcome, for the local x
 abbrev pub exprEffects : ℕ → Forest → List ExprEffect

@@ -52,7 +52,7 @@ enum Form {
     Vetted,
 }
 
-// Where the second and the third operand of a row start, if there are any, and where the row ends.
+// The form of a row, where it ends, and where its second and its third operand start, if it has them.
 struct Places {
     form: Form,
     end: usize,
@@ -90,10 +90,10 @@ fn call_form(side: usize) -> Form
     }
 }
 
-fn form_of(kind: ExprClass, side: usize) -> Form
-    ensures { λ r. ⌜ r ≡ formOf kind side ⌝ }
+fn form_of(class: ExprClass, side: usize) -> Form
+    ensures { λ r. ⌜ r ≡ formOf class side ⌝ }
 {
-    match kind {
+    match class {
         ExprClass::Paren => Form::Inner,
         ExprClass::Unary => unary_form(side),
         ExprClass::Binary => binary_form(side),
@@ -362,7 +362,7 @@ fn whole(rows: &[u32], local: usize, form: Form, from: usize, to: usize) -> RowE
 pub fn expr_da(rows: &[u32], local: usize, from: usize, to: usize) -> RowEffect
     requires { ⌜ Nested (now rows) from to ⌝ }
     ensures { λ r. ⌜ r ≡ unguarded local (tree (now (rows .entry)) from to) ⌝ }
-    ensures told { λ r. ⌜ DaTold local (tree (now (rows .entry)) from to) (r .effect) ⌝ }
+    ensures means { λ r. ⌜ DaTold local (tree (now (rows .entry)) from to) (r .effect) ⌝ }
 {
     if to <= from {
         return RowEffect {
@@ -388,7 +388,7 @@ pub fn expr_da(rows: &[u32], local: usize, from: usize, to: usize) -> RowEffect
 pub fn expr_writes_when(rows: &[u32], local: usize, from: usize, to: usize) -> ExprEffect
     requires { ⌜ Nested (now rows) from to ⌝ }
     ensures { λ r. ⌜ r ≡ exprEffectOf local (tree (now (rows .entry)) from to) 0 ⌝ }
-    ensures told { λ r. ⌜ EffectTold local (tree (now (rows .entry)) from to) r ⌝ }
+    ensures means { λ r. ⌜ EffectTold local (tree (now (rows .entry)) from to) r ⌝ }
 {
     guard(expr_da(rows, local, from, to))
 }
