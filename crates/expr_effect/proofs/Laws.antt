@@ -1,5 +1,5 @@
--- The law of an expression, for every row. Of evaluation it cites the rules and the two laws of paths, of the reference test
--- that iff makes no difference where none refers.
+-- The law of an expression, for every row. Of evaluation it cites the rules of triples and the laws of every row, of the
+-- reference test that iff makes no difference where none refers.
 use Prim.Native.Nat.{ℕ, zero, suc, _≤_}
 use lib.Dec.{eqb}
 use mathlib.Core.Path.{_≡_, refl, sym, ap, subst, _∙_}
@@ -36,10 +36,10 @@ use Rattle.expr_effect.proofs.Operands.{unguarded-none}
 use Rattle.expr_effect.specs.Law.{EffectLaw, Meets, WhenLaw, isPlain, factsAt, exprFacts, noFacts, ExprLaw, EffectTold, DaTold}
 
 -- what the effect and the writing on an outcome say of an evaluation
-pub record Sound (o : ExprEffect) (e : Evaluation) : Type 0 where
-  pub calm : Evaluates full full e
-  pub effect : EffectLaw (o .effect) e
-  pub when : (want : Bool) (t : Truth) → Meets want t → WhenLaw (writesWhen o want) (e .truth t)
+record Sound (o : ExprEffect) (e : Evaluation) : Type 0 where
+  calm : Evaluates full full e
+  effect : EffectLaw (o .effect) e
+  when : (want : Bool) (t : Truth) → Meets want t → WhenLaw (writesWhen o want) (e .truth t)
 
 -- the writing of a row that guards itself
 
