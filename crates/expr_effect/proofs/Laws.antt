@@ -311,6 +311,16 @@ facts-effects x nil i = refl
 facts-effects x (node k s lo hi cs others) zero = refl
 facts-effects x (node k s lo hi cs others) (suc i) = facts-effects x others i
 
+-- and of the first row, the reference test and whether it is the plain local: what the code asks by `expr_no_ref` and by its path
+module _ (x k s lo hi : ℕ) (cs others : Forest) where
+  pub facts-refers : nth noFacts 0 (exprFacts x (node k s lo hi cs others)) .refers ≡ refers Skipped x (node k s lo hi cs nil)
+  unfolding fold factsAt
+  facts-refers = refl
+
+  pub facts-plain : exprClass k ≡ Lident → nth noFacts 0 (exprFacts x (node k s lo hi cs others)) .plain ≡ isLocal x cs
+  unfolding fold factsAt
+  facts-plain e = rw e
+
 effect-kept : (x : ℕ) (f : Forest) → unguarded x f .effect ≡ exprDa x f 0
 unfolding unguarded fold exprEffectAt
 effect-kept x nil = refl

@@ -2,3 +2,4 @@ pub mod Steps
 pub mod Operands
 pub mod Laws
 pub mod Rust
+pub mod Meaning

@@ -32,6 +32,10 @@ pub read-is-written : {c : Command} {next jump : Claim} (s u : List PathEvent) (
 read-is-written {next = next} {jump = jump} s u e o h r x =
     good-written s (e ∷ u) (Ends next jump o) none (read-needs e u (Ends next jump o) r) none-not-full (h .go none ⊑-refl (s ++ (e ∷ u)) o x)
 
+-- so has what counts as a read
+pub outside-is-written : {c : Command} {next jump : Claim} (s u : List PathEvent) (o : Ending) → Triple none c next jump → Runs c (s ++ (outside ∷ u)) o → Written s
+outside-is-written s u o h x = read-is-written s u outside o h (λ n. n) x
+
 -- and where all is claimed to be written next, a run that goes on has written
 pub fall-is-written : {c : Command} {jump : Claim} (s : List PathEvent) → Triple none c (at full) jump → Runs c s falls → Written s
 fall-is-written {jump = jump} s h x = good-written s [] (Ends (at full) jump falls) none (λ v g. g) none-not-full (rw (append-nil s) (h .go none ⊑-refl s falls x))

@@ -1,21 +1,23 @@
 -- Which evaluations must exist. A theorem about all runs is true of too few runs as well, so each sentence of document 01,
 -- "How a path runs", on expressions and targets has small rows here with the complete list of their runs.
 use mathlib.Core.Path.{_≡_, refl, ap, subst}
-use mathlib.Core.Bool.{true, false}
+use mathlib.Core.Bool.{Bool, true, false}
 use mathlib.Core.List.{List, [], _∷_, _++_, map}
 use Prim.Native.Nat.{ℕ}
 use Prim.Native.String.{String}
 use lib.ListN.{take, drop, take-append-drop}
-use Rattle.table.specs.Rows.{Forest, nil, node}
+use Rattle.table.specs.Rows.{Forest, nil, node, rest}
 use Rattle.table.specs.Fold.{fold, nth, tail}
 use Rattle.kinds.specs.Kinds.{kinds}
 use Rattle.kinds.specs.Words.{same, placeFrom, kindOf}
 use Rattle.kinds.specs.Named.{kindNumber, numbered, exprClass}
 use Rattle.reads.specs.PathRows.{isNamed, begins, count, segments, isLocal}
-use Rattle.paths.specs.Commands.{PathEvent, read, write, choice, falls, stops, Command, Runs}
+use Rattle.reads.specs.Mentions.{inRowOrder, seenBelow, seenAt, seen, some, refers}
+use Rattle.reads.specs.Iffs.{iffHere, every, iffAt, iffQuiet}
+use Rattle.paths.specs.Commands.{PathEvent, read, write, choice, falls, stops, leaves, again, out-of-loop, out-of-round, Command, emit, exit, seq, star, catch, Runs}
 use Rattle.paths.specs.Evaluation.{Truth, is-true, is-false, Evaluation, noEvaluation, evaluationAt, evaluations}
 use Rattle.paths.proofs.Prefixes.{prefix}
-use Rattle.paths.proofs.Listed.{Run, IsRun, Each, followed, eachFollowed, listed, each-map, listed-run, straight, Among, all-listed}
+use Rattle.paths.proofs.Listed.{Run, IsRun, Each, followed, eachFollowed, rounds, listed, each-map, listed-run, straight, Among, all-listed}
 
 -- Rows
 
@@ -384,3 +386,47 @@ expected-only (c ∷ cs) e q = (
 
 pub only-runs : Each OnlyRuns cases
 only-runs = expected-only cases joint joint-straight
+
+-- The commands that no expression has: jumps, what ends them, and rounds, two at most
+
+abbrev loops : List (Command × List Run)
+loops =
+    (seq (exit leaves) (emit read), ([], leaves) ∷ []) ∷
+    (seq (exit again) (emit read), ([], again) ∷ []) ∷
+    (seq (exit stops) (emit read), ([], stops) ∷ []) ∷
+    (catch out-of-loop (exit leaves), ([], falls) ∷ []) ∷
+    (catch out-of-loop (exit again), ([], again) ∷ []) ∷
+    (catch out-of-loop (exit stops), ([], stops) ∷ []) ∷
+    (catch out-of-round (exit leaves), ([], leaves) ∷ []) ∷
+    (catch out-of-round (exit again), ([], falls) ∷ []) ∷
+    (catch out-of-round (exit stops), ([], stops) ∷ []) ∷
+    (catch out-of-round (emit write), (write ∷ [], falls) ∷ []) ∷
+    (star (emit read), ([], falls) ∷ (read ∷ [], falls) ∷ (read ∷ read ∷ [], falls) ∷ []) ∷
+    (star (seq (emit write) (exit leaves)), ([], falls) ∷ (write ∷ [], leaves) ∷ []) ∷
+    []
+
+pub joint-loops : map (λ l. listed 2 (l .0)) loops ≡ map (λ l. l .1) loops
+unfolding listed eachFollowed followed rounds
+joint-loops = refl
+
+-- The premise on iff passes where no iff refers, whatever the event's own expression is, and fails where one does
+
+abbrev premises : List (Row × Bool)
+premises =
+    (plus X W, true) ∷
+    (event X absent, true) ∷
+    (event Y Y, true) ∷
+    (event X Y, true) ∷
+    (row "delay" 0 (X ∷ []), true) ∷
+    (row "list" 0 (event X absent ∷ event Y lit ∷ []), true) ∷
+    (event Y X, false) ∷
+    (event Y (ident (x ∷ y ∷ [])), false) ∷
+    (event Y (minus X), false) ∷
+    (event Y opaque, false) ∷
+    (row "list" 0 (event X absent ∷ event Y X ∷ []), false) ∷
+    (row "intra" 0 (absent ∷ row "list" 0 (event Y X ∷ []) ∷ []), false) ∷
+    []
+
+pub joint-premises : map (λ p. iffQuiet x (p .0 nil)) premises ≡ map (λ p. p .1) premises
+unfolding fold exprClass numbered kindNumber kindOf placeFrom kinds same isNamed begins inRowOrder seenBelow seenAt seen some refers rest iffHere every iffAt iffQuiet
+joint-premises = refl

@@ -1,0 +1,88 @@
+-- What the answers say of a single run of a row that is evaluated, where no iff of it refers to the local.
+use Prim.Native.Nat.{ℕ}
+use mathlib.Core.Path.{_≡_, refl, subst, ap, _∙_}
+use mathlib.Core.Bool.{Bool, true, false}
+use mathlib.Core.List.{List, _∷_, _++_}
+use Rattle.table.specs.Rows.{Forest, nil, node}
+use Rattle.table.specs.Fold.{nth}
+use Rattle.kinds.specs.declared.ExprClass.the-variants.{Lident}
+use Rattle.kinds.specs.Named.{exprClass}
+use Rattle.reads.specs.declared.Iff.the-variants.{Skipped}
+use Rattle.reads.specs.PathRows.{isLocal}
+use Rattle.reads.specs.Mentions.{refers}
+use Rattle.reads.specs.Iffs.{iffQuiet}
+use Rattle.paths.specs.Marks.{none, full}
+use Rattle.paths.specs.Commands.{PathEvent, read, Ending, falls, Runs}
+use Rattle.paths.specs.Silence.{Silent}
+use Rattle.paths.specs.Evaluation.{Evaluation, Truth, is-true, is-false, noEvaluation, evaluations}
+use Rattle.paths.specs.Evaluates.{Evaluates}
+use Rattle.paths.proofs.Evaluating.{evaluates-forget}
+use Rattle.paths.proofs.Meaning.{Written, read-is-written, fall-is-written}
+use Rattle.expr_effect.specs.declared.ExprDa.{ExprDa}
+use Rattle.expr_effect.specs.declared.ExprDa.the-variants.{Clean, Writes, Reads}
+use Rattle.expr_effect.specs.Effect.{exprEffectOf, exprDa, exprWritesWhen, writesWhen}
+use Rattle.expr_effect.specs.Law.{EffectLaw, WhenLaw, ExprLaw, exprFacts, noFacts}
+use Rattle.expr_effect.proofs.Laws.{facts-effects, facts-refers, facts-plain, effect-told}
+
+not-reads : (d : ExprDa) (e : Evaluation) → (d ≡ Reads → ⊥) → EffectLaw d e → Evaluates none none e
+not-reads Clean e n h = h
+not-reads Writes e n h = evaluates-forget h
+not-reads Reads e n h = absurd (n refl)
+
+module _ (x k s lo hi : ℕ) (cs : Forest) (q : iffQuiet x (node k s lo hi cs nil) ≡ true) where
+  abbrev row : Forest
+  row = node k s lo hi cs nil
+
+  abbrev evaluated : Evaluation
+  evaluated = nth noEvaluation 0 (evaluations x row)
+
+  law : ExprLaw (nth noFacts 0 (exprFacts x row)) evaluated
+  law = effect-told x row (exprEffectOf x row 0) refl .law q
+
+  effect-law : EffectLaw (exprDa x row 0) evaluated
+  effect-law = subst (λ o. EffectLaw (o .effect) evaluated) (facts-effects x row 0) (law .effect)
+
+  -- Writes: whoever goes on with its value, or its truth, has written
+  module _ (w : exprDa x row 0 ≡ Writes) (t : List PathEvent) where
+    written : Evaluates none full evaluated
+    written = subst (λ d. EffectLaw d evaluated) w effect-law
+
+    pub value-written : Runs (evaluated .value) t falls → Written t
+    value-written r = fall-is-written t (written .value) r
+
+    pub truth-written : (b : Truth) → Runs (evaluated .truth b) t falls → Written t
+    truth-written b r = fall-is-written t (written .truth b) r
+
+  -- unless Reads: a read has a write before it
+  module _ (n : exprDa x row 0 ≡ Reads → ⊥) (t u : List PathEvent) (o : Ending) where
+    pub value-read : Runs (evaluated .value) (t ++ (read ∷ u)) o → Written t
+    value-read r = read-is-written t u read o (not-reads (exprDa x row 0) evaluated n effect-law .value) (λ z. z) r
+
+    pub truth-read : (b : Truth) → Runs (evaluated .truth b) (t ++ (read ∷ u)) o → Written t
+    truth-read b r = read-is-written t u read o (not-reads (exprDa x row 0) evaluated n effect-law .truth b) (λ z. z) r
+
+  -- the writing on an outcome
+  module _ (t : List PathEvent) where
+    when-law : (want : Bool) (c : Truth) → WhenLaw (writesWhen (nth noFacts 0 (exprFacts x row) .effects) want) (evaluated .truth c) → exprWritesWhen x row 0 want ≡ true → Runs (evaluated .truth c) t falls → Written t
+    when-law want c h w r = fall-is-written t (subst (λ b. WhenLaw b (evaluated .truth c)) (ap (λ o. writesWhen o want) (facts-effects x row 0) ∙ w) h) r
+
+    pub true-written : exprWritesWhen x row 0 true ≡ true → Runs (evaluated .truth is-true) t falls → Written t
+    true-written = when-law true is-true (law .when true is-true tt)
+
+    pub false-written : exprWritesWhen x row 0 false ≡ true → Runs (evaluated .truth is-false) t falls → Written t
+    false-written = when-law false is-false (law .when false is-false tt)
+
+  -- no reference: nothing is read, in whatever way the row is evaluated
+  module _ (n : refers Skipped x row ≡ false) (t : List PathEvent) (o : Ending) where
+    pub value-silent : Runs (evaluated .value) t o → Silent t
+    value-silent = law .silent (facts-refers x k s lo hi cs nil ∙ n) .value .go t o
+
+    pub truth-silent : (b : Truth) → Runs (evaluated .truth b) t o → Silent t
+    truth-silent b = law .silent (facts-refers x k s lo hi cs nil ∙ n) .truth b .go t o
+
+    pub store-silent : Runs (evaluated .store) t o → Silent t
+    store-silent = law .silent (facts-refers x k s lo hi cs nil ∙ n) .store .go t o
+
+  -- the plain local as a target: whoever goes on has written
+  pub store-written : exprClass k ≡ Lident → isLocal x cs ≡ true → (t : List PathEvent) → Runs (evaluated .store) t falls → Written t
+  store-written e l t r = fall-is-written t (law .plainly (facts-plain x k s lo hi cs nil e ∙ l)) r
