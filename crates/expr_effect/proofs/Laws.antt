@@ -32,7 +32,7 @@ use Rattle.expr_effect.specs.declared.RowEffect.{RowEffect}
 use Rattle.expr_effect.specs.declared.Form.{Form}
 use Rattle.expr_effect.specs.declared.Form.the-variants.{Inner, LogNot, Operand, LogAnd, LogOr, Operands, Arms, CallWrites, Vetted}
 use Rattle.expr_effect.specs.Effect.{unaryForm, binaryForm, callForm, formOf, join, shortCircuit, oneArm, afterCond, writesWhen, effectOf, operandsWrite, selfGuarded, combined, guarded, noEffect, noRowEffect, exprEffectAt, exprEffects, exprEffectOf, exprDa, unguarded}
-use Rattle.expr_effect.proofs.Operands.{unguarded-none}
+use Rattle.expr_effect.proofs.Operands.{unguarded-none, effect-first}
 use Rattle.expr_effect.specs.Law.{EffectLaw, Meets, WhenLaw, isPlain, factsAt, exprFacts, noFacts, ExprLaw, EffectTold, DaTold}
 
 -- what the effect and the writing on an outcome say of an evaluation
@@ -333,11 +333,11 @@ module _ (x : ℕ) (f : Forest) where
   pub effect-told : (r : ExprEffect) → r ≡ exprEffectOf x f 0 → EffectTold x f r
   effect-told r e = record { facts = facts-effects x f 0 ∙ sym e; law = first-law }
 
-  pub da-told : (r : RowEffect) → r ≡ unguarded x f → DaTold x f (r .effect)
+  pub da-told : (r : RowEffect) → r ≡ unguarded x f → DaTold x f r
   da-told r e =
       let d : exprDa x f 0 ≡ r .effect = sym (rw e (effect-kept x f)) in
-      record { effect = d; law = λ q. subst (λ d. EffectLaw d (nth noEvaluation 0 (evaluations x f))) (ap (λ o. o .effect) (facts-effects x f 0) ∙ d) (first-law q .effect) }
+      record { effect = d; writing = ap guarded e ∙ sym (effect-first x f); law = λ q. subst (λ d. EffectLaw d (nth noEvaluation 0 (evaluations x f))) (ap (λ o. o .effect) (facts-effects x f 0) ∙ d) (first-law q .effect) }
 
 -- no row
-pub none-told : (x : ℕ) (rows : List ℕ) (from to : ℕ) → to ≤ from → DaTold x (tree rows from to) Clean
+pub none-told : (x : ℕ) (rows : List ℕ) (from to : ℕ) → to ≤ from → DaTold x (tree rows from to) noRowEffect
 none-told x rows from to h = da-told x (tree rows from to) noRowEffect (unguarded-none x rows from to h)

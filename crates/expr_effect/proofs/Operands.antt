@@ -100,7 +100,7 @@ module _ (x : ℕ) (rows : List ℕ) (from to : ℕ) (o : Places) (w : Bool) (r 
       pc ∙ fold-next (exprEffectAt x) noEffect 0 (po .from-second) (po .third) ∙ fold-next (exprEffectAt x) noEffect 1 (po .first) (po .second) in
       p ∙ rw (pa, vb, vc) (unvetted (o .form) false (refers Skipped x (tree rows from (o .end))) _ _ _ (part-unvetted (o .form) (sym pw ∙ q))) ∙ sym first
 
-effect-first : (x : ℕ) (f : Forest) → exprEffectOf x f 0 ≡ guarded (unguarded x f)
+pub effect-first : (x : ℕ) (f : Forest) → exprEffectOf x f 0 ≡ guarded (unguarded x f)
 unfolding unguarded fold exprEffectAt
 effect-first x nil = refl
 effect-first x (node k s lo hi cs others) = refl

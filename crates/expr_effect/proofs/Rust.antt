@@ -18,9 +18,9 @@ use Rattle.expr_effect.specs.declared.Form.{Form}
 use Rattle.expr_effect.specs.declared.Form.the-variants.{Inner, LogNot, Operand, LogAnd, LogOr, Operands, Arms, CallWrites, Vetted}
 use Rattle.expr_effect.specs.Effect.{unaryForm, binaryForm, callForm, formOf, join, shortCircuit, oneArm, afterCond, effectOf, operandsWrite, selfGuarded, vettedEffect, exprEffectAt, exprEffectOf, exprDa, exprWritesWhen}
 
-vetted : (b : Bool) → vettedEffect b ≡ cond (not b) Clean Reads
-vetted true = refl
-vetted false = refl
+vetted-is : (b : Bool) → vettedEffect b ≡ cond (not b) Clean Reads
+vetted-is true = refl
+vetted-is false = refl
 
 unary-effect : (i b : Bool) (a c d : ExprEffect) → effectOf (cond i LogNot Operand) b a c d ≡ a .effect
 unary-effect true b a c d = refl
@@ -52,7 +52,7 @@ module _ (x k s lo hi : ℕ) (cs others : Forest) where
   -- any other call: "if expr_no_ref(e, name) { ExprDa::Clean } else { ExprDa::Reads }"
   pub da-call : exprClass k ≡ Call → (s ≡ 1 → ⊥) → exprDa x row 0 ≡ cond (exprNoRef x (node k s lo hi cs nil)) Clean Reads
   unfolding callForm
-  da-call e n = rw (da-form, e, ne-eqb s 1 n) (vetted (refers Skipped x (node k s lo hi cs nil)))
+  da-call e n = rw (da-form, e, ne-eqb s 1 n) (vetted-is (refers Skipped x (node k s lo hi cs nil)))
 
   -- "match sub(lhs) { Writes => Writes, Reads => Reads, Clean => match sub(rhs) { .. } }", where "reaches_rhs" is true for &&
   pub da-and : exprClass k ≡ Binary → s ≡ 1 → exprDa x row 0 ≡ shortCircuit (exprDa x cs 0) (exprDa x cs 1) (exprWritesWhen x cs 0 true)
@@ -74,7 +74,7 @@ module _ (x k s lo hi : ℕ) (cs others : Forest) where
 
   -- "Every other node": "if expr_no_ref(e, name) { ExprDa::Clean } else { ExprDa::Reads }"
   pub da-vetted : formOf (exprClass k) s ≡ Vetted → exprDa x row 0 ≡ cond (exprNoRef x (node k s lo hi cs nil)) Clean Reads
-  da-vetted e = rw (da-form, e) (vetted (refers Skipped x (node k s lo hi cs nil)))
+  da-vetted e = rw (da-form, e) (vetted-is (refers Skipped x (node k s lo hi cs nil)))
 
   -- expr_writes_when: the effect first, "Writes => return true, Reads => return false", then the match on the kind
   pub when-form : (want : Bool) → exprWritesWhen x row 0 want ≡ selfGuarded (exprDa x row 0) (operandsWrite (formOf (exprClass k) s) want (exprEffectOf x cs 0) (exprEffectOf x cs 1))

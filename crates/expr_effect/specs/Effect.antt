@@ -45,7 +45,7 @@ formOf Other s = Vetted
 
 -- "if expr_no_ref(e, name) { Clean } else { Reads }"
 abbrev pub vettedEffect : Bool → ExprDa
-vettedEffect refers = cond refers Reads Clean
+vettedEffect mentioned = cond mentioned Reads Clean
 
 -- join: "Two sub-expressions BOTH evaluated, in an order IEEE does not fix"
 abbrev pub join : ExprDa → ExprDa → ExprDa
@@ -85,17 +85,17 @@ afterCond Clean arms = arms
 abbrev pub writesWhen : ExprEffect → Bool → Bool
 writesWhen o want = cond want (o .«when_true») (o .«when_false»)
 
--- expr_da: the match on the kind, from what the row's operands do; `refers` is the reference test of the row itself
+-- expr_da: the match on the kind, from what the row's operands do; `mentioned` is the reference test of the row itself
 abbrev pub effectOf : Form → Bool → ExprEffect → ExprEffect → ExprEffect → ExprDa
-effectOf Inner refers a b c = a .effect
-effectOf LogNot refers a b c = a .effect
-effectOf Operand refers a b c = a .effect
-effectOf CallWrites refers a b c = Writes
-effectOf LogAnd refers a b c = shortCircuit (a .effect) (b .effect) (writesWhen a true)
-effectOf LogOr refers a b c = shortCircuit (a .effect) (b .effect) (writesWhen a false)
-effectOf Operands refers a b c = join (a .effect) (b .effect)
-effectOf Arms refers a b c = afterCond (a .effect) (oneArm (b .effect) (c .effect))
-effectOf Vetted refers a b c = vettedEffect refers
+effectOf Inner mentioned a b c = a .effect
+effectOf LogNot mentioned a b c = a .effect
+effectOf Operand mentioned a b c = a .effect
+effectOf CallWrites mentioned a b c = Writes
+effectOf LogAnd mentioned a b c = shortCircuit (a .effect) (b .effect) (writesWhen a true)
+effectOf LogOr mentioned a b c = shortCircuit (a .effect) (b .effect) (writesWhen a false)
+effectOf Operands mentioned a b c = join (a .effect) (b .effect)
+effectOf Arms mentioned a b c = afterCond (a .effect) (oneArm (b .effect) (c .effect))
+effectOf Vetted mentioned a b c = vettedEffect mentioned
 
 -- expr_writes_when: its second match, which a clean row comes to
 abbrev pub operandsWrite : Form → Bool → ExprEffect → ExprEffect → Bool
@@ -117,8 +117,8 @@ selfGuarded Clean wrote = wrote
 
 -- a row's effect, and what its operands write once the row is true, and once it is false
 abbrev pub combined : Form → Bool → ExprEffect → ExprEffect → ExprEffect → RowEffect
-combined m refers a b c = record {
-  effect = effectOf m refers a b c;
+combined m mentioned a b c = record {
+  effect = effectOf m mentioned a b c;
   «operands_true» = operandsWrite m true a b;
   «operands_false» = operandsWrite m false a b;
 }

@@ -22,7 +22,8 @@ use Rattle.paths.specs.Silence.{ReadsNothing}
 use Rattle.expr_effect.specs.declared.ExprDa.{ExprDa}
 use Rattle.expr_effect.specs.declared.ExprDa.the-variants.{Clean, Writes, Reads}
 use Rattle.expr_effect.specs.declared.ExprEffect.{ExprEffect}
-use Rattle.expr_effect.specs.Effect.{writesWhen, noEffect, exprEffectAt, exprEffects, exprDa}
+use Rattle.expr_effect.specs.declared.RowEffect.{RowEffect}
+use Rattle.expr_effect.specs.Effect.{writesWhen, guarded, noEffect, exprEffectAt, exprEffects, exprEffectOf, exprDa}
 
 -- Clean: no read while the local is unwritten. (The Rust's comment says no read at all, but `(c && w(x)) && x` is Clean there
 -- too.) Writes: "EVERY evaluation of this expression writes `name` whole, and no read of `name` can precede that write". Reads
@@ -81,7 +82,7 @@ noFacts = record { refers = false; plain = false; effects = noEffect }
 pub record ExprLaw (facts : ExprFacts) (e : Evaluation) : Type 0 where
   -- where the local is written, any evaluation is fine
   pub calm : Evaluates full full e
-  -- no reference: what is written is kept, and nothing is read
+  -- no reference: any evaluation is fine from nothing written on, and nothing is read
   pub quiet : facts .refers ≡ false → Evaluates none none e
   pub silent : facts .refers ≡ false → ReadsNothing e
   pub effect : EffectLaw (facts .effects .effect) e
@@ -94,7 +95,8 @@ pub record EffectTold (x : ℕ) (f : Forest) (o : ExprEffect) : Type 0 where
   pub facts : nth noFacts 0 (exprFacts x f) .effects ≡ o
   pub law : iffQuiet x f ≡ true → ExprLaw (nth noFacts 0 (exprFacts x f)) (nth noEvaluation 0 (evaluations x f))
 
--- the same of the effect alone
-pub record DaTold (x : ℕ) (f : Forest) (d : ExprDa) : Type 0 where
-  pub effect : exprDa x f 0 ≡ d
-  pub law : iffQuiet x f ≡ true → EffectLaw d (nth noEvaluation 0 (evaluations x f))
+-- what an answer of `expr_da` means: the row's effect with its law, and what the row writes once its own effect is looked at
+pub record DaTold (x : ℕ) (f : Forest) (r : RowEffect) : Type 0 where
+  pub effect : exprDa x f 0 ≡ r .effect
+  pub writing : guarded r ≡ exprEffectOf x f 0
+  pub law : iffQuiet x f ≡ true → EffectLaw (r .effect) (nth noEvaluation 0 (evaluations x f))

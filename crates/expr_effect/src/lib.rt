@@ -362,7 +362,7 @@ fn whole(rows: &[u32], local: usize, form: Form, from: usize, to: usize) -> RowE
 pub fn expr_da(rows: &[u32], local: usize, from: usize, to: usize) -> RowEffect
     requires { ⌜ Nested (now rows) from to ⌝ }
     ensures { λ r. ⌜ r ≡ unguarded local (tree (now (rows .entry)) from to) ⌝ }
-    ensures means { λ r. ⌜ DaTold local (tree (now (rows .entry)) from to) (r .effect) ⌝ }
+    ensures means { λ r. ⌜ DaTold local (tree (now (rows .entry)) from to) r ⌝ }
 {
     if to <= from {
         return RowEffect {

@@ -193,7 +193,7 @@ module _ (x k s lo hi : ℕ) (cs : Forest) where
     unfolding fold
     quiet-built = first (built NotRead tt (λ n. tt) x (node k s lo hi cs nil) (λ e. true-not-false (sym e ∙ r)))
 
-    -- a row that does not refer keeps what is written
+    -- a row that does not refer is fine from nothing written on
     pub quiet-row : Evaluates none none (evaluationAt x k s lo hi cs (evaluations x cs))
     quiet-row = record { value = built-quiet (quiet-built .value); truth = λ t. built-quiet (quiet-built .truth t); store = built-quiet (quiet-built .store) }
 

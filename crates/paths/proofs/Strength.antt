@@ -52,8 +52,8 @@ ident ns = row "ident" 0 (pathOf ns ∷ [])
 abbrev pub lident : List ℕ → Row
 lident ns = row "lident" 0 (pathOf ns ∷ [])
 
-abbrev pub call : ℕ → List ℕ → List Row → Row
-call s ns arguments = row "call" s (pathOf ns ∷ arguments)
+abbrev pub callRow : ℕ → List ℕ → List Row → Row
+callRow s ns arguments = row "call" s (pathOf ns ∷ arguments)
 
 -- x reads, y does not, and w(x) writes
 abbrev pub X : Row
@@ -63,7 +63,7 @@ abbrev pub Y : Row
 Y = ident (y ∷ [])
 
 abbrev pub W : Row
-W = call 1 (w ∷ []) (X ∷ [])
+W = callRow 1 (w ∷ []) (X ∷ [])
 
 abbrev pub lit : Row
 lit = row "lit" 0 []
@@ -228,22 +228,22 @@ conditionals =
 -- reads unless side is 1"
 abbrev writers : List Case
 writers =
-    value (call 1 (w ∷ []) (X ∷ opaque ∷ [])) ((write ∷ []) ∷ []) ∷
-    value (call 1 (x ∷ []) (X ∷ [])) ((write ∷ []) ∷ []) ∷
-    isTrue (call 1 (x ∷ y ∷ []) (X ∷ [])) ((write ∷ choice 1 ∷ []) ∷ []) ∷
+    value (callRow 1 (w ∷ []) (X ∷ opaque ∷ [])) ((write ∷ []) ∷ []) ∷
+    value (callRow 1 (x ∷ []) (X ∷ [])) ((write ∷ []) ∷ []) ∷
+    isTrue (callRow 1 (x ∷ y ∷ []) (X ∷ [])) ((write ∷ choice 1 ∷ []) ∷ []) ∷
     []
 
 -- sides 0, 2 and 3: "what a called function with side 2 or 3 reads inside itself ... is no read of the path"; "the shape of a
 -- call's own path" does not read
 abbrev calls : ℕ → List Case
 calls s =
-    value (call s (w ∷ []) (W ∷ X ∷ opaque ∷ [])) ((write ∷ read ∷ read ∷ []) ∷ []) ∷
-    value (call s (w ∷ []) (X ∷ W ∷ [])) ((read ∷ write ∷ []) ∷ []) ∷
-    value (call s (x ∷ []) (W ∷ [])) ((read ∷ write ∷ []) ∷ []) ∷
-    value (call s (x ∷ y ∷ []) []) ((read ∷ []) ∷ []) ∷
-    value (call s (y ∷ x ∷ []) []) ([] ∷ []) ∷
-    isTrue (call s [] (X ∷ [])) ((read ∷ choice 1 ∷ []) ∷ []) ∷
-    isFalse (call s [] (X ∷ [])) ((read ∷ choice 0 ∷ []) ∷ []) ∷
+    value (callRow s (w ∷ []) (W ∷ X ∷ opaque ∷ [])) ((write ∷ read ∷ read ∷ []) ∷ []) ∷
+    value (callRow s (w ∷ []) (X ∷ W ∷ [])) ((read ∷ write ∷ []) ∷ []) ∷
+    value (callRow s (x ∷ []) (W ∷ [])) ((read ∷ write ∷ []) ∷ []) ∷
+    value (callRow s (x ∷ y ∷ []) []) ((read ∷ []) ∷ []) ∷
+    value (callRow s (y ∷ x ∷ []) []) ([] ∷ []) ∷
+    isTrue (callRow s [] (X ∷ [])) ((read ∷ choice 1 ∷ []) ∷ []) ∷
+    isFalse (callRow s [] (X ∷ [])) ((read ∷ choice 0 ∷ []) ∷ []) ∷
     []
 
 -- "An ident whose first segment is the local reads; so does opaque"

@@ -50,7 +50,7 @@ Elsewhere stops = Unit
 Elsewhere leaves = Unit
 Elsewhere again = Unit
 
--- What a command can do. "A path may stop anywhere": before a command, and after its event.
+-- What a command can do. A path "may stop anywhere": before a command, and after its event.
 pub data Runs : Command → List PathEvent → Ending → Type 0 where
   run-stop : {c : Command} → Runs c [] stops
   run-skip : Runs skip [] falls

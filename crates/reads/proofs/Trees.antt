@@ -9,10 +9,13 @@ use Rattle.table.specs.Fold.{fold, nth, tail, Pairwise, no-pair, pair}
 use Rattle.table.proofs.Fold.{related-at}
 use Rattle.kinds.specs.declared.ExprClass.the-variants.{Event}
 use Rattle.kinds.specs.Named.{exprClass}
-use Rattle.kinds.proofs.Below.{both-true}
+use lib.Dec.{eqb}
+use Rattle.kinds.proofs.Below.{both-true, true-not-false}
 use Rattle.reads.specs.declared.Iff.{Iff}
 use Rattle.reads.specs.declared.Iff.the-variants.{Skipped, Held}
 use Rattle.reads.specs.Mentions.{roleOf, hasIff, skipsIff, mentions, inRowOrder, passedOver, withoutIff, seenBelow, seenAt, seen, some, refers}
+use Rattle.reads.specs.PathRows.{begins, segments}
+use Rattle.reads.specs.NoRef.{exprNoRef, Vetting, nothing, children, two-segments, not-vetted, vetting, vetted, stmtNoRef}
 use Rattle.reads.specs.Iffs.{iffHere, every, iffAt, iffQuiet}
 
 some-append : (a b : List Bool) → some (a ++ b) ≡ some a || some b
@@ -127,3 +130,15 @@ same-each x (node k s lo hi cs others) q =
 pub refers-quiet : (x : ℕ) (f : Forest) → iffQuiet x f ≡ true → refers Skipped x f ≡ refers Held x f
 unfolding refers seen
 refers-quiet x f q = same-all (same-each x f q)
+
+-- what stmt_no_ref's yes means: a statement that is not null holds no row that refers
+
+vetted-clear : (v : Vetting) (x : ℕ) (cs : Forest) → (v ≡ nothing → ⊥) → vetted v x cs ≡ true → refers Skipped x cs ≡ false
+vetted-clear nothing x cs n e = absurd (n refl)
+vetted-clear children x cs n e = not-true (refers Skipped x cs) e
+vetted-clear two-segments x cs n e = not-true (refers Skipped x cs) (both-true (not (begins x cs)) (exprNoRef x cs) (both-true (eqb (segments cs) 2) (not (begins x cs) && exprNoRef x cs) e .1) .1)
+vetted-clear not-vetted x cs n e = true-not-false (sym e)
+
+pub stmt-clear : (x k s lo hi : ℕ) (cs others : Forest) → (vetting k ≡ nothing → ⊥) → stmtNoRef x (node k s lo hi cs others) ≡ true → refers Skipped x cs ≡ false
+unfolding stmtNoRef
+stmt-clear x k s lo hi cs others n e = vetted-clear (vetting k) x cs n e

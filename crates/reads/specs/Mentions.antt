@@ -11,7 +11,7 @@ use Rattle.kinds.specs.declared.ExprClass.the-variants.{Ident, Call, Lident, Op
 use Rattle.kinds.specs.Named.{exprClass}
 use Rattle.reads.specs.PathRows.{begins}
 use Rattle.reads.specs.declared.Role.{Role}
-use Rattle.reads.specs.declared.Role.the-variants.{ByPath, Always, HasIff, Holds}
+use Rattle.reads.specs.declared.Role.the-variants.{ByPath, Always, HasIff, ByContent}
 use Rattle.reads.specs.declared.Iff.{Iff}
 use Rattle.reads.specs.declared.Iff.the-variants.{Skipped, Held}
 use Rattle.reads.specs.declared.Mention.{Mention}
@@ -25,24 +25,24 @@ roleOf Call = ByPath
 roleOf Lident = ByPath
 roleOf Opaque = Always
 roleOf Event = HasIff
-roleOf Unary = Holds
-roleOf Binary = Holds
-roleOf Ternary = Holds
-roleOf Paren = Holds
-roleOf Other = Holds
+roleOf Unary = ByContent
+roleOf Binary = ByContent
+roleOf Ternary = ByContent
+roleOf Paren = ByContent
+roleOf Other = ByContent
 
 -- whether a row of this role is itself a mention, by whether its path begins with the local
 abbrev pub mentionsBy : Role → Bool → Bool
 mentionsBy ByPath headed = headed
 mentionsBy Always headed = true
 mentionsBy HasIff headed = false
-mentionsBy Holds headed = false
+mentionsBy ByContent headed = false
 
 abbrev pub hasIff : Role → Bool
 hasIff ByPath = false
 hasIff Always = false
 hasIff HasIff = true
-hasIff Holds = false
+hasIff ByContent = false
 
 -- the row itself, by its class and children
 abbrev pub mentions : ℕ → ExprClass → Forest → Bool
@@ -97,7 +97,7 @@ unfoldable pub firstTrue : ℕ → List Bool → Mention
 firstTrue i [] = Nowhere
 firstTrue i (b ∷ bs) = cond b (At i) (firstTrue (i + 1) bs)
 
--- "the first row, in row order, at which it finds a reference", of the rows from `from` up to `to`
+-- the first row, in row order, that is a mention and is looked at, of the rows from `from` up to `to` (document 02, Paper 4)
 unfoldable pub mentionIn : Iff → ℕ → List ℕ → ℕ → ℕ → Mention
 mentionIn iff x rows from to = firstTrue from (seen iff x (tree rows from to))
 

@@ -12,7 +12,7 @@ use Rattle.reads.specs.Mentions.{refers}
 abbrev pub exprNoRef : ℕ → Forest → Bool
 exprNoRef x f = not (refers Skipped x f)
 
--- lvalue_no_ref: "the write target and any select index"
+-- lvalue_no_ref: "write target and any select index"
 abbrev pub lvalueNoRef : ℕ → Forest → Bool
 lvalueNoRef = exprNoRef
 

@@ -21,7 +21,7 @@ enum Role {
     ByPath,
     Always,
     HasIff,
-    Holds,
+    ByContent,
 }
 
 // Where the first mention of the local is.
@@ -39,11 +39,11 @@ fn role_of(class: ExprClass) -> Role
         ExprClass::Lident => Role::ByPath,
         ExprClass::Opaque => Role::Always,
         ExprClass::Event => Role::HasIff,
-        ExprClass::Unary => Role::Holds,
-        ExprClass::Binary => Role::Holds,
-        ExprClass::Ternary => Role::Holds,
-        ExprClass::Paren => Role::Holds,
-        ExprClass::Other => Role::Holds,
+        ExprClass::Unary => Role::ByContent,
+        ExprClass::Binary => Role::ByContent,
+        ExprClass::Ternary => Role::ByContent,
+        ExprClass::Paren => Role::ByContent,
+        ExprClass::Other => Role::ByContent,
     }
 }
 
@@ -80,7 +80,7 @@ fn is_mention(rows: &[u32], local: usize, i: usize, to: usize) -> bool
         Role::ByPath => begins_with(rows, local, i + 1, table::row_end(rows, i, to)),
         Role::Always => true,
         Role::HasIff => false,
-        Role::Holds => false,
+        Role::ByContent => false,
     }
 }
 
@@ -97,7 +97,7 @@ fn skips_iff(rows: &[u32], iff: Iff, i: usize) -> bool
         Role::HasIff => true,
         Role::ByPath => false,
         Role::Always => false,
-        Role::Holds => false,
+        Role::ByContent => false,
     }
 }
 
