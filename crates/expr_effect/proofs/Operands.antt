@@ -2,12 +2,13 @@
 use Prim.Native.Nat.{ℕ, _+_, _-_, _*_, _≤_, _<_}
 use native.Mathlib.Omega.{arith}
 use mathlib.Core.Path.{_≡_, refl, sym, _∙_}
-use mathlib.Core.Bool.{Bool, true, false, not, true≢false}
+use mathlib.Core.Bool.{Bool, true, false, not}
 use mathlib.Core.List.{List}
 use Rattle.table.specs.Rows.{Forest, nil, node, tree, Nested}
 use Rattle.table.specs.Fold.{fold}
 use Rattle.table.proofs.Tree.{tree-none, tree-some, tree-alone}
 use Rattle.table.proofs.Fold.{fold-next}
+use Rattle.kinds.proofs.Below.{true-not-false}
 use Rattle.reads.specs.declared.Iff.the-variants.{Skipped}
 use Rattle.reads.specs.Mentions.{refers}
 use Rattle.reads.specs.NoRef.{exprNoRef}
@@ -19,9 +20,6 @@ use Rattle.expr_effect.specs.declared.Form.{Form}
 use Rattle.expr_effect.specs.declared.Form.the-variants.{Inner, LogNot, Operand, LogAnd, LogOr, Operands, Arms, CallWrites, Vetted}
 use Rattle.expr_effect.specs.Effect.{combined, guarded, isWhole, isVetted, noEffect, noRowEffect, exprEffectAt, exprEffectOf, unguarded}
 
-clash : {A : Type 0} → true ≡ false → A
-clash e = absurd (true≢false e)
-
 -- where the reference test does not decide, its answer does not matter
 unvetted : (m : Form) (n p : Bool) (a b c : ExprEffect) → isVetted m ≡ false → combined m n a b c ≡ combined m p a b c
 unvetted Inner n p a b c e = refl
@@ -32,19 +30,19 @@ unvetted LogOr n p a b c e = refl
 unvetted Operands n p a b c e = refl
 unvetted Arms n p a b c e = refl
 unvetted CallWrites n p a b c e = refl
-unvetted Vetted n p a b c e = clash e
+unvetted Vetted n p a b c e = true-not-false e
 
 -- where the operands are not looked at, they do not matter
 unasked : (m : Form) (n : Bool) (a b c d e f : ExprEffect) → isWhole m ≡ true → combined m n a b c ≡ combined m n d e f
 unasked CallWrites n a b c d e f w = refl
 unasked Vetted n a b c d e f w = refl
-unasked Inner n a b c d e f w = clash (sym w)
-unasked LogNot n a b c d e f w = clash (sym w)
-unasked Operand n a b c d e f w = clash (sym w)
-unasked LogAnd n a b c d e f w = clash (sym w)
-unasked LogOr n a b c d e f w = clash (sym w)
-unasked Operands n a b c d e f w = clash (sym w)
-unasked Arms n a b c d e f w = clash (sym w)
+unasked Inner n a b c d e f w = true-not-false (sym w)
+unasked LogNot n a b c d e f w = true-not-false (sym w)
+unasked Operand n a b c d e f w = true-not-false (sym w)
+unasked LogAnd n a b c d e f w = true-not-false (sym w)
+unasked LogOr n a b c d e f w = true-not-false (sym w)
+unasked Operands n a b c d e f w = true-not-false (sym w)
+unasked Arms n a b c d e f w = true-not-false (sym w)
 
 -- a form that the reference test decides is one that does not look at its operands
 part-unvetted : (m : Form) → isWhole m ≡ false → isVetted m ≡ false

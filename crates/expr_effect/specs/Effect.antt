@@ -159,6 +159,7 @@ isWhole Arms = false
 abbrev pub noEffect : ExprEffect
 noEffect = record { effect = Clean; «when_true» = false; «when_false» = false }
 
+-- no row
 abbrev pub noRowEffect : RowEffect
 noRowEffect = record { effect = Clean; «operands_true» = false; «operands_false» = false }
 
@@ -167,6 +168,7 @@ abbrev pub rowEffect : ℕ → ℕ → ℕ → ℕ → ℕ → Forest → List E
 rowEffect x k s lo hi cs es =
     combined (formOf (exprClass k) s) (refers Skipped x (node k s lo hi cs nil)) (nth noEffect 0 es) (nth noEffect 1 es) (nth noEffect 2 es)
 
+-- and what it writes itself
 unfoldable pub exprEffectAt : ℕ → Alg ExprEffect
 exprEffectAt x k s lo hi cs es = guarded (rowEffect x k s lo hi cs es)
 
@@ -178,10 +180,11 @@ exprEffects x = fold (exprEffectAt x)
 abbrev pub exprEffectOf : ℕ → Forest → ℕ → ExprEffect
 exprEffectOf x f i = nth noEffect i (exprEffects x f)
 
--- expr_da and expr_writes_when, of the sibling number i
+-- expr_da of the sibling number i
 abbrev pub exprDa : ℕ → Forest → ℕ → ExprDa
 exprDa x f i = exprEffectOf x f i .effect
 
+-- expr_writes_when of the sibling number i
 abbrev pub exprWritesWhen : ℕ → Forest → ℕ → Bool → Bool
 exprWritesWhen x f i want = writesWhen (exprEffectOf x f i) want
 

@@ -64,6 +64,7 @@ pub record ExprFacts : Type 0 where
   pub plain : Bool
   pub effects : ExprEffect
 
+-- of one row; the effects of its children are worked out anew, so its children's facts are not asked
 unfoldable pub factsAt : ℕ → Alg ExprFacts
 factsAt x k s lo hi cs fs = record {
   refers = refersIn Skipped x (node k s lo hi cs nil);
@@ -79,6 +80,7 @@ exprFacts x = fold (factsAt x)
 abbrev pub noFacts : ExprFacts
 noFacts = record { refers = false; plain = false; effects = noEffect }
 
+-- what these say of every evaluation of the row
 pub record ExprLaw (facts : ExprFacts) (e : Evaluation) : Type 0 where
   -- where the local is written, any evaluation is fine
   pub calm : Evaluates full full e

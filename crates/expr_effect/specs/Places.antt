@@ -7,6 +7,7 @@ use Rattle.kinds.specs.Named.{exprClass}
 use Rattle.expr_effect.specs.declared.Places.{Places}
 use Rattle.expr_effect.specs.Effect.{formOf}
 
+-- the places, and that the ranges from them to the row's end nest and lie after row i
 pub record PlacesTold (rows : List ℕ) (i to : ℕ) (r : Places) : Type 0 where
   pub form : r .form ≡ formOf (exprClass (kindAt rows i)) (sideAt rows i)
   pub end : r .end ≡ endAt rows i

@@ -18,6 +18,7 @@ pub data Ending : Type 0 where
 pub data Jump : Type 0 where
   out-of-loop out-of-round : Jump
 
+-- what rows are compiled to
 pub data Command : Type 0 where
   -- nothing happens
   skip : Command

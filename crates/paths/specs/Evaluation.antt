@@ -35,11 +35,12 @@ pub record Evaluation : Type 0 where
   -- as the target of an assignment: its selects, then the write
   pub store : Command
 
--- "is evaluated and then is freely true or false"
+-- "is evaluated and then is freely true or false" (12.4: true where the value is nonzero)
 abbrev pub free : Command → Evaluation
 free c = record { value = c; truth = λ t. seq c (emit (choice (choiceOf t))); store = c }
 
 -- &&, || and `!`: the truth comes from their operands, "Evaluated operands of &&, || and `!` always have their truth asked"
+-- (11.4.7)
 abbrev pub asked : (Truth → Command) → Evaluation
 asked f = record { value = alt (f is-true) (f is-false); truth = f; store = alt (f is-true) (f is-false) }
 
@@ -62,11 +63,12 @@ abbrev pub inOrder : List Evaluation → Command
 inOrder [] = skip
 inOrder (e ∷ es) = seq (e .value) (inOrder es)
 
--- a read, or a write, where the test says so
+-- a read where the test says so
 abbrev pub readIf : Bool → Command
 readIf true = emit read
 readIf false = skip
 
+-- a write where the test says so
 abbrev pub writeIf : Bool → Command
 writeIf true = emit write
 writeIf false = skip
@@ -109,6 +111,7 @@ evaluationOf x Lident s cs es = target (isLocal x cs)
 evaluationOf x Event s cs es = free (inOrder es)
 evaluationOf x Other s cs es = free (inOrder es)
 
+-- a row by its kind number
 unfoldable pub evaluationAt : ℕ → Alg Evaluation
 evaluationAt x k s lo hi cs es = evaluationOf x (exprClass k) s cs es
 

@@ -7,10 +7,12 @@ use lib.Dec.{T}
 pub Mark : Type 0
 Mark = Bool
 
+-- all is written
 pub full : Mark
 unfolding Mark
 full = true
 
+-- nothing is known to be written
 pub none : Mark
 unfolding Mark
 none = false
@@ -24,6 +26,8 @@ isFull a = a
 infix 40 _⊑_
 pub record _⊑_ (a b : Mark) : Type 0 where
   keeps : T (isFull a) → T (isFull b)
+
+-- the laws
 
 pub full-is-full : isFull full ≡ true
 unfolding isFull full

@@ -3,16 +3,19 @@ use mathlib.Core.List.{List, [], _∷_}
 use Rattle.paths.specs.Commands.{PathEvent, read, write, outside, choice, Ending, Command, Runs}
 use Rattle.paths.specs.Evaluation.{Evaluation, Truth}
 
+-- neither a read nor `outside`, which counts as one
 abbrev pub NotRead : PathEvent → Type 0
 NotRead read = ⊥
 NotRead outside = ⊥
 NotRead write = Unit
 NotRead (choice n) = Unit
 
+-- no event of the list is
 abbrev pub Silent : List PathEvent → Type 0
 Silent [] = Unit
 Silent (e ∷ t) = NotRead e × Silent t
 
+-- on every run of the command
 pub record NeverReads (c : Command) : Type 0 where
   pub go : (t : List PathEvent) (o : Ending) → Runs c t o → Silent t
 

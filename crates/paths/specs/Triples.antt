@@ -27,6 +27,7 @@ pub data Claim : Type 0 where
   at : Mark → Claim
   never : Claim
 
+-- a claim, where this much is written
 abbrev pub Holds : Claim → Mark → Type 0
 Holds (at b) w = b ⊑ w
 Holds never w = ⊥

@@ -13,10 +13,12 @@ use Rattle.reads.specs.Mentions.{roleOf, hasIff, refers}
 unfoldable pub iffHere : ℕ → ExprClass → Forest → Bool
 iffHere x k cs = not (hasIff (roleOf k) && refers Held x (rest cs))
 
+-- all of them are true
 unfoldable pub every : List Bool → Bool
 every [] = true
 every (b ∷ bs) = b && every bs
 
+-- a row, and the rows below it
 unfoldable pub iffAt : ℕ → Alg Bool
 iffAt x k s lo hi cs bs = iffHere x (exprClass k) cs && every bs
 

@@ -38,6 +38,7 @@ mentionsBy Always headed = true
 mentionsBy HasIff headed = false
 mentionsBy ByContent headed = false
 
+-- "event E E?(iff)"
 abbrev pub hasIff : Role → Bool
 hasIff ByPath = false
 hasIff Always = false

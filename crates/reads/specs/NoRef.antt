@@ -37,6 +37,7 @@ vetting k =
     (cond (eqb k (numbered "task")) two-segments
     not-vetted))
 
+-- the answer of each arm; a task is vetted "if cn.segments.len() == 2", by its first segment and its arguments
 abbrev pub vetted : Vetting → ℕ → Forest → Bool
 vetted nothing x cs = true
 vetted children x cs = exprNoRef x cs

@@ -4,7 +4,7 @@ use mathlib.Core.Bool.{Bool, false, _&&_}
 use lib.Dec.{eqb}
 use Rattle.table.specs.Rows.{Forest, nil, node}
 
--- the first of these siblings, if there is one, is of the local x; segments carry their name's number as side
+-- "seg (side: name number)": the first of these siblings, if there is one, is a segment that names the local x
 unfoldable pub isNamed : ℕ → Forest → Bool
 isNamed x nil = false
 isNamed x (node k s lo hi cs others) = eqb s x
