@@ -11,12 +11,12 @@ use Rattle.table.proofs.Fold.{related-at}
 use Rattle.kinds.specs.declared.ExprClass.{ExprClass}
 use Rattle.kinds.specs.declared.ExprClass.the-variants.{Ident, Call, Lident, Opaque, Event, Unary, Binary, Ternary, Paren, Other}
 use Rattle.kinds.specs.Named.{exprClass}
-use Rattle.kinds.proofs.Below.{true-not-false}
+use Rattle.kinds.proofs.Below.{true-not-false, neither}
 use Rattle.reads.specs.declared.Iff.the-variants.{Skipped, Held}
 use Rattle.reads.specs.PathRows.{isLocal}
 use Rattle.reads.specs.Mentions.{refers}
 use Rattle.reads.specs.Iffs.{iffQuiet}
-use Rattle.reads.proofs.Trees.{quiet-children, quiet-others, quiet-alone, refers-quiet}
+use Rattle.reads.proofs.Trees.{refers-node, quiet-children, quiet-others, quiet-alone, refers-quiet}
 use Rattle.paths.specs.Marks.{full, none}
 use Rattle.paths.specs.Commands.{write, emit, seq}
 use Rattle.paths.specs.Triples.{Triple, at, never}
@@ -33,7 +33,7 @@ use Rattle.expr_effect.specs.declared.Form.{Form}
 use Rattle.expr_effect.specs.declared.Form.the-variants.{Inner, LogNot, Operand, LogAnd, LogOr, Operands, Arms, CallWrites, Vetted}
 use Rattle.expr_effect.specs.Effect.{unaryForm, binaryForm, callForm, formOf, join, shortCircuit, oneArm, afterCond, writesWhen, effectOf, operandsWrite, selfGuarded, combined, guarded, noEffect, noRowEffect, exprEffectAt, exprEffects, exprEffectOf, exprDa, unguarded}
 use Rattle.expr_effect.proofs.Operands.{unguarded-none, effect-first}
-use Rattle.expr_effect.specs.Law.{EffectLaw, Meets, WhenLaw, isPlain, factsAt, exprFacts, noFacts, ExprLaw, EffectTold, DaTold}
+use Rattle.expr_effect.specs.Law.{EffectLaw, Meets, WhenLaw, isPlain, factsAt, exprFacts, noFacts, NoneRefer, none-left, and-more, ExprLaw, EffectTold, DaTold}
 
 -- what the effect and the writing on an outcome say of an evaluation
 record Sound (o : ExprEffect) (e : Evaluation) : Type 0 where
@@ -301,6 +301,15 @@ expr-laws x (node k s lo hi cs others) q =
 
 pub no-law : ExprLaw noFacts noEvaluation
 no-law = record { calm = no-sound .calm; quiet = λ e. no-sound .effect; silent = λ e. silent-none; effect = no-sound .effect; when = no-sound .when; plainly = λ e. true-not-false (sym e) }
+
+-- the reference test of a list of rows, said of each of them
+
+pub none-refer : (x : ℕ) (f : Forest) → refers Skipped x f ≡ false → NoneRefer (exprFacts x f)
+unfolding fold factsAt
+none-refer x nil e = none-left
+none-refer x (node k s lo hi cs others) e =
+    let h = neither (refers Skipped x (node k s lo hi cs nil)) (refers Skipped x others) (sym (refers-node Skipped x k s lo hi cs others) ∙ e) in
+    and-more (h .0) (none-refer x others (h .1))
 
 -- what the answers mean
 

@@ -17,7 +17,8 @@ use Rattle.paths.specs.Silence.{Silent}
 use Rattle.paths.specs.Evaluation.{Evaluation, Truth, is-true, is-false, noEvaluation, evaluations}
 use Rattle.paths.specs.Evaluates.{Evaluates}
 use Rattle.paths.proofs.Evaluating.{evaluates-forget}
-use Rattle.paths.proofs.Meaning.{Written, read-is-written, fall-is-written}
+use Rattle.paths.specs.Written.{Written}
+use Rattle.paths.proofs.Meaning.{read-is-written, fall-is-written}
 use Rattle.expr_effect.specs.declared.ExprDa.{ExprDa}
 use Rattle.expr_effect.specs.declared.ExprDa.the-variants.{Clean, Writes, Reads}
 use Rattle.expr_effect.specs.Effect.{exprEffectOf, exprDa, exprWritesWhen, writesWhen}

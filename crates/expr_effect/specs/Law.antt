@@ -2,7 +2,7 @@
 -- row. It is all that a proof about statements needs to know of expressions. Definitions only.
 use mathlib.Core.Path.{_≡_}
 use mathlib.Core.Bool.{Bool, true, false}
-use mathlib.Core.List.{List}
+use mathlib.Core.List.{List, [], _∷_}
 use Prim.Native.Nat.{ℕ}
 use Rattle.table.specs.Rows.{Forest, nil, node}
 use Rattle.table.specs.Fold.{Alg, fold, nth}
@@ -58,8 +58,10 @@ isPlain x Ternary cs = false
 isPlain x Paren cs = false
 isPlain x Other cs = false
 
--- what the walk asks of a row of an expression or a target
+-- what the walk asks of a row of an expression or a target; reason 2 "carries the expression's span"
 pub record ExprFacts : Type 0 where
+  pub lo : ℕ
+  pub hi : ℕ
   pub refers : Bool
   pub plain : Bool
   pub effects : ExprEffect
@@ -67,6 +69,8 @@ pub record ExprFacts : Type 0 where
 -- of one row; the effects of its children are worked out anew, so its children's facts are not asked
 unfoldable pub factsAt : ℕ → Alg ExprFacts
 factsAt x k s lo hi cs fs = record {
+  lo = lo;
+  hi = hi;
   refers = refersIn Skipped x (node k s lo hi cs nil);
   plain = isPlain x (exprClass k) cs;
   effects = exprEffectAt x k s lo hi cs (exprEffects x cs);
@@ -78,7 +82,12 @@ exprFacts x = fold (factsAt x)
 
 -- what stands where a child is missing
 abbrev pub noFacts : ExprFacts
-noFacts = record { refers = false; plain = false; effects = noEffect }
+noFacts = record { lo = 0; hi = 0; refers = false; plain = false; effects = noEffect }
+
+-- none of a list of rows refers to the local
+pub data NoneRefer : List ExprFacts → Type 0 where
+  none-left : NoneRefer []
+  and-more : {facts : ExprFacts} {others : List ExprFacts} → facts .refers ≡ false → NoneRefer others → NoneRefer (facts ∷ others)
 
 -- what these say of every evaluation of the row
 pub record ExprLaw (facts : ExprFacts) (e : Evaluation) : Type 0 where

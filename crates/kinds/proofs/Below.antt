@@ -1,7 +1,7 @@
 -- A rule of the whole table, from a test that is computed once over it.
 use Prim.Native.Nat.{ℕ, zero, suc, _<_}
-use mathlib.Core.Path.{_≡_}
-use mathlib.Core.Bool.{Bool, true, false, _&&_, true≢false, and-eq-true-iff}
+use mathlib.Core.Path.{_≡_, refl}
+use mathlib.Core.Bool.{Bool, true, false, _&&_, _||_, true≢false, and-eq-true-iff}
 use mathlib.Core.Logic.{⊎-elim}
 use native.Mathlib.Nat.{not-suc-le-zero, le-of-suc-le-suc, eq-or-lt-of-le}
 
@@ -10,6 +10,10 @@ true-not-false e = absurd (true≢false e)
 
 pub both-true : (a b : Bool) → a && b ≡ true → (a ≡ true) × (b ≡ true)
 both-true a b = and-eq-true-iff a b .0
+
+pub neither : (a b : Bool) → a || b ≡ false → (a ≡ false) × (b ≡ false)
+neither true b e = true-not-false e
+neither false b e = (refl, e)
 
 -- a test passes at each number below n
 unfoldable pub everyBelow : (ℕ → Bool) → ℕ → Bool

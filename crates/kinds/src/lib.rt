@@ -35,6 +35,34 @@ pub enum ExprClass {
     Other,
 }
 
+// The kinds that the rules of statements name; arms, declarations and what stands for an absent statement among them.
+pub enum StmtClass {
+    Absent,
+    Match,
+    Default,
+    Decl,
+    Blocking,
+    Nonblocking,
+    If,
+    Return,
+    Case,
+    For,
+    While,
+    Repeat,
+    Forever,
+    Block,
+    Fork,
+    Systask,
+    Task,
+    Delayctrl,
+    Eventctrl,
+    Wait,
+    Disable,
+    Null,
+    Unmodelled,
+    NoStmt,
+}
+
 // The kind whose word the small letters from a place on are, and the place after them; at most twelve are read, more than
 // any word has.
 pub struct KindAt {

@@ -19,7 +19,7 @@ use Rattle.paths.specs.Marks.{Mark, full, none, _⊑_}
 use Rattle.paths.specs.Commands.{PathEvent, read, write, choice, Ending, falls, stops, leaves, again, Command, skip, emit, seq, alt, Runs, run-stop, run-skip, run-emit, run-emit-stop, run-seq, run-off, run-left, run-right}
 use Rattle.paths.specs.Triples.{at, never, Ends, Triple}
 use Rattle.paths.specs.Evaluation.{Truth, is-true, is-false, choiceOf, Evaluation, free, asked, both, either, inOrder, readIf, writeIf, noEvaluation, evaluationOf, evaluationAt, evaluations}
-use Rattle.paths.specs.Evaluates.{Evaluates}
+use Rattle.paths.specs.Evaluates.{Evaluates, AllEvaluate, no-more, one-more}
 use Rattle.paths.specs.Silence.{NotRead, Silent, ReadsNothing}
 use Rattle.paths.proofs.Rules.{good-full, good-silent}
 
@@ -200,3 +200,9 @@ module _ (x k s lo hi : ℕ) (cs : Forest) where
     -- and reads nothing
     pub silent-row : ReadsNothing (evaluationAt x k s lo hi cs (evaluations x cs))
     silent-row = built-silent quiet-built
+
+-- where all is written, every evaluation of every row is fine
+pub calm-all : (x : ℕ) (f : Forest) → AllEvaluate full (evaluations x f)
+unfolding fold
+calm-all x nil = no-more
+calm-all x (node k s lo hi cs others) = one-more (calm-row x k s lo hi cs) (calm-all x others)

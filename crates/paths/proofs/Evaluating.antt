@@ -1,10 +1,13 @@
 -- The rules of triples at the forms of specs/Evaluation.
-use Rattle.paths.specs.Marks.{Mark, none, ⊑-refl, none-⊑}
+use mathlib.Core.List.{List, [], _∷_}
+use Prim.Native.Nat.{ℕ, zero, suc}
+use Rattle.table.specs.Fold.{nth, tail}
+use Rattle.paths.specs.Marks.{Mark, _⊑_, none, ⊑-refl, none-⊑}
 use Rattle.paths.specs.Commands.{Command}
 use Rattle.paths.specs.Triples.{Triple, at, never}
-use Rattle.paths.specs.Evaluation.{Truth, is-true, is-false, choiceOf, Evaluation, free, asked, both, either, conditional}
-use Rattle.paths.specs.Evaluates.{Evaluates}
-use Rattle.paths.proofs.Rules.{less, nowhere, weaken, rule-choice, rule-seq, rule-alt}
+use Rattle.paths.specs.Evaluation.{Truth, is-true, is-false, choiceOf, Evaluation, free, asked, both, either, conditional, inOrder, noEvaluation}
+use Rattle.paths.specs.Evaluates.{Evaluates, AllEvaluate, no-more, one-more}
+use Rattle.paths.proofs.Rules.{less, nowhere, weaken, lift, rule-skip, rule-choice, rule-seq, rule-alt}
 
 -- nothing is known at the end
 pub evaluates-forget : {a b : Mark} {e : Evaluation} → Evaluates a b e → Evaluates a none e
@@ -40,3 +43,33 @@ chain-triple is-false h k i is-false = search composed
 -- the arms keep what the condition leaves
 pub conditional-triple : {a b : Mark} {e l r : Evaluation} → Evaluates a b e → Evaluates b b l → Evaluates b b r → Triple a (conditional e l r) (at b) never
 conditional-triple h i k = search composed
+
+-- what is fine from less is fine from more, and keeps it
+pub evaluates-lift : {a b m : Mark} {e : Evaluation} → a ⊑ m → Evaluates a b e → Evaluates m m e
+evaluates-lift p h = record { value = lift p (h .value); truth = λ t. lift p (h .truth t); store = lift p (h .store) }
+
+-- what ends with more is fine from more as well
+pub evaluates-from : {a b m : Mark} {e : Evaluation} → a ⊑ m → Evaluates a b e → Evaluates m b e
+evaluates-from p h = record {
+  value = weaken p (less ⊑-refl) nowhere (h .value);
+  truth = λ t. weaken p (less ⊑-refl) nowhere (h .truth t);
+  store = weaken p (less ⊑-refl) nowhere (h .store);
+}
+
+-- rows one after the other, and one of them
+module _ {m : Mark} where
+  pub in-order : {es : List Evaluation} → AllEvaluate m es → Triple m (inOrder es) (at m) never
+  in-order no-more = rule-skip
+  in-order (one-more h hs) = rule-seq (h .value) (in-order hs)
+
+  pub evaluates-none : Evaluates m m noEvaluation
+  evaluates-none = evaluates-free rule-skip
+
+  pub evaluates-place : {es : List Evaluation} (n : ℕ) → AllEvaluate m es → Evaluates m m (nth noEvaluation n es)
+  evaluates-place n no-more = evaluates-none
+  evaluates-place zero (one-more h hs) = h
+  evaluates-place (suc n) (one-more h hs) = evaluates-place n hs
+
+  pub evaluate-tail : {es : List Evaluation} → AllEvaluate m es → AllEvaluate m (tail es)
+  evaluate-tail no-more = no-more
+  evaluate-tail (one-more h hs) = hs

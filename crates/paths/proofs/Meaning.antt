@@ -1,17 +1,11 @@
 -- What a triple says of a run: a read, and what counts as one, has a whole write before it.
+use mathlib.Core.Path.{subst}
 use mathlib.Core.List.{List, [], _∷_, _++_, append-nil}
 use Rattle.paths.specs.Marks.{Mark, full, none, _⊑_, ⊑-refl, none-not-full}
 use Rattle.paths.specs.Commands.{PathEvent, read, write, outside, choice, Ending, falls, Command, Runs}
 use Rattle.paths.specs.Triples.{Good, Claim, at, Ends, Triple}
 use Rattle.paths.specs.Silence.{NotRead}
-
--- the list holds a write
-abbrev pub Written : List PathEvent → Type 0
-Written [] = ⊥
-Written (read ∷ s) = Written s
-Written (outside ∷ s) = Written s
-Written (write ∷ s) = Unit
-Written (choice n ∷ s) = Written s
+use Rattle.paths.specs.Written.{Written, IsRead, ReadsWritten}
 
 -- where what follows s can be good only if all is written, s holds a write
 good-written : (s u : List PathEvent) (P : Mark → Type 0) (w : Mark) → ((v : Mark) → Good u P v → full ⊑ v) → (full ⊑ w → ⊥) → Good (s ++ u) P w → Written s
@@ -39,3 +33,13 @@ outside-is-written s u o h x = read-is-written s u outside o h (λ n. n) x
 -- and where all is claimed to be written next, a run that goes on has written
 pub fall-is-written : {c : Command} {jump : Claim} (s : List PathEvent) → Triple none c (at full) jump → Runs c s falls → Written s
 fall-is-written {jump = jump} s h x = good-written s [] (Ends (at full) jump falls) none (λ v g. g) none-not-full (rw (append-nil s) (h .go none ⊑-refl s falls x))
+
+is-read : (e : PathEvent) → IsRead e → NotRead e → ⊥
+is-read read r n = n
+is-read outside r n = n
+is-read write r n = r
+is-read (choice m) r n = r
+
+-- so of every run from nothing written on
+pub reads-written : {c : Command} {next jump : Claim} {t : List PathEvent} {o : Ending} → Triple none c next jump → Runs c t o → ReadsWritten t
+reads-written {c} {o = o} h x = record { before = λ s u e q r. read-is-written s u e o h (is-read e r) (subst (λ t. Runs c t o) q x) }

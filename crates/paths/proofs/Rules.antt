@@ -45,7 +45,7 @@ pub good-silent : (a : Mark) (t : List PathEvent) (P : Mark → Type 0) (w : Mar
 good-silent a [] P w p h f = f w p
 good-silent a (e ∷ t) P w p h f = (fine-silent e w (h .0), good-silent a t P (writtenAfter e w) (⊑-trans p (grows e w)) (h .1) f)
 
-good-never : (t : List PathEvent) (w : Mark) → Good t (λ v. ⊥) w → ⊥
+pub good-never : (t : List PathEvent) (w : Mark) → Good t (λ v. ⊥) w → ⊥
 good-never [] w g = g
 good-never (e ∷ t) w g = good-never t (writtenAfter e w) (g .1)
 

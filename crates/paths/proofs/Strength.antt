@@ -342,7 +342,7 @@ joint = refl
 
 -- So each of them can happen
 
-shortened-run : (extent : Extent) (c : Command) (rs : List Run) → Each (IsRun c) rs → Each (IsRun c) (shortened extent rs)
+pub shortened-run : (extent : Extent) (c : Command) (rs : List Run) → Each (IsRun c) rs → Each (IsRun c) (shortened extent rs)
 shortened-run whole c rs h = h
 shortened-run (up-to n) c rs h =
     each-map (IsRun c) (IsRun c) (λ r. (take n (r .0), stops)) (λ r i. prefix {o = r .1} (take n (r .0)) (drop n (r .0)) (rw (take-append-drop n (r .0)) i)) rs h

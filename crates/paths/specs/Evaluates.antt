@@ -1,4 +1,5 @@
 -- A triple for each way in which a row may be evaluated. An evaluation never jumps.
+use mathlib.Core.List.{List, [], _∷_}
 use Rattle.paths.specs.Marks.{Mark}
 use Rattle.paths.specs.Triples.{Triple, at, never}
 use Rattle.paths.specs.Evaluation.{Evaluation, Truth}
@@ -8,3 +9,8 @@ pub record Evaluates (a b : Mark) (e : Evaluation) : Type 0 where
   pub value : Triple a (e .value) (at b) never
   pub truth : (t : Truth) → Triple a (e .truth t) (at b) never
   pub store : Triple a (e .store) (at b) never
+
+-- each of a list of rows, all of them keeping what is written
+pub data AllEvaluate (m : Mark) : List Evaluation → Type 0 where
+  no-more : AllEvaluate m []
+  one-more : {e : Evaluation} {es : List Evaluation} → Evaluates m m e → AllEvaluate m es → AllEvaluate m (e ∷ es)

@@ -4,3 +4,4 @@ pub mod Triples
 pub mod Evaluation
 pub mod Evaluates
 pub mod Silence
+pub mod Written

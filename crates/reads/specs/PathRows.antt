@@ -27,3 +27,13 @@ segments (node k s lo hi cs others) = count cs
 -- "The plain local is an lident whose path is one segment, the local": a path of one segment, the local
 unfoldable pub isLocal : ℕ → Forest → Bool
 isLocal x cs = eqb (segments cs) 1 && begins x cs
+
+-- the first of these siblings, if there is one, is a segment with a name that is marked
+unfoldable pub isMarked : (ℕ → Bool) → Forest → Bool
+isMarked marks nil = false
+isMarked marks (node k s lo hi cs others) = marks s
+
+-- is_loop_jump; "a disable whose path is one segment with jump mark 1": the first of these siblings is such a path
+unfoldable pub isLoopJump : (ℕ → Bool) → Forest → Bool
+isLoopJump marks nil = false
+isLoopJump marks (node k s lo hi cs others) = eqb (count cs) 1 && isMarked marks cs

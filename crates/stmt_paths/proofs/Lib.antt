@@ -1,0 +1,3 @@
+pub mod PremiseTest
+pub mod Numbering
+pub mod Strength

@@ -1,0 +1,171 @@
+-- How a statement runs: document 01, "How a path runs", with the clauses of IEEE 1800 that fix it in brackets. Definitions only.
+-- Nothing here is written from the Rust. A choice has the number by which document 02, Paper 6, tells it.
+use mathlib.Core.List.{List, [], _∷_}
+use mathlib.Core.Bool.{Bool, true, false, cond, _&&_, _||_, not}
+use Prim.Native.Nat.{ℕ, suc}
+use lib.Dec.{eqb}
+use Rattle.table.specs.Rows.{Forest}
+use Rattle.table.specs.Fold.{Alg, fold, nth, tail}
+use Rattle.kinds.specs.declared.StmtClass.{StmtClass}
+use Rattle.kinds.specs.declared.StmtClass.the-variants.{Absent, Match, Default, Decl, Blocking, Nonblocking, If, Return, Case, For, While, Repeat, Forever, Block, Fork, Systask, Task, Delayctrl, Eventctrl, Wait, Disable, Null, Unmodelled, NoStmt}
+use Rattle.kinds.specs.Named.{stmtClass, taskEffect}
+use Rattle.reads.specs.declared.Iff.the-variants.{Held}
+use Rattle.reads.specs.PathRows.{begins, segments, isLoopJump}
+use Rattle.reads.specs.Mentions.{refers}
+use Rattle.paths.specs.Commands.{PathEvent, read, write, outside, choice, Ending, stops, leaves, again, out-of-loop, out-of-round, Command, skip, emit, exit, seq, alt, star, catch, Runs}
+use Rattle.paths.specs.Evaluation.{is-true, is-false, Evaluation, inOrder, noEvaluation, evaluations}
+
+-- how a row runs that is a statement, a declaration or an arm of a case
+pub record Execution : Type 0 where
+  pub run : Command
+  -- of an arm: its labels, and whether it is a default
+  pub labels : List Evaluation
+  pub isDefault : Bool
+
+-- a row that is no arm
+abbrev pub plain : Command → Execution
+plain c = record { run = c; labels = []; isDefault = false }
+
+-- what stands where a child is missing, and what an absent child does
+abbrev pub noExecution : Execution
+noExecution = plain skip
+
+-- the condition does not come out true: the else side is taken, a loop ends, a wait does not go on
+abbrev pub unmet : Evaluation → Command
+unmet e = e .truth is-false
+
+-- "Block: initialisers, then statements" (6.21, 9.3.1)
+abbrev pub oneByOne : List Execution → Command
+oneByOne [] = skip
+oneByOne (r ∷ rs) = seq (r .run) (oneByOne rs)
+
+-- a condition, then the side that it chooses (12.4)
+abbrev pub ifElse : Evaluation → Execution → Execution → Command
+ifElse c t e = alt (seq (c .truth is-true) (t .run)) (seq (unmet c) (e .run))
+
+-- the labels of all arms, in row order
+abbrev pub allLabels : List Execution → Command
+allLabels [] = skip
+allLabels (r ∷ rs) = seq (inOrder (r .labels)) (allLabels rs)
+
+-- one of the arms is a default
+abbrev pub hasDefault : List Execution → Bool
+hasDefault [] = false
+hasDefault (r ∷ rs) = r .isDefault || hasDefault rs
+
+-- "all of them for ... no arm", which is chosen "only where no default stands"; its number is "the count of arms"
+abbrev pub noArm : Bool → ℕ → Command → Command
+noArm true n all = exit stops
+noArm false n all = seq (emit (choice n)) all
+
+-- the arms from number n on: the choice of one, then "labels in row order through the chosen arm's (all of them for a default ...),
+-- then that arm"; the labels of the arms before these come first
+abbrev pub armsFrom : ℕ → Command → Command → Bool → List Execution → Command
+armsFrom n before all default [] = noArm default n all
+armsFrom n before all default (r ∷ rs) =
+    alt
+    (seq (emit (choice n)) (seq (cond (r .isDefault) all (seq before (inOrder (r .labels)))) (r .run)))
+    (armsFrom (suc n) (seq before (inOrder (r .labels))) all default rs)
+
+-- "Case: scrutinee, then labels ..., then that arm" (12.5)
+abbrev pub caseOf : Evaluation → List Execution → Command
+caseOf c rs = seq (c .value) (armsFrom 0 skip (allLabels rs) (hasDefault rs) rs)
+
+-- one round: what comes before the body, the body, the step; a jump may leave "only its round" (12.8: continue jumps to the end
+-- of the loop body)
+abbrev pub round : Command → Command → Command → Command
+round head body step = seq head (seq (catch out-of-round body) step)
+
+-- "Loops run any number of rounds, at least one with side 1"
+abbrev pub atLeast : ℕ → Command → Command → Command
+atLeast s r end = cond (eqb s 1) (seq r (seq (star r) end)) (seq (star r) end)
+
+-- the four loops (12.7): by side, what comes before each body, body, step, and what ends the rounds; a jump may leave "the
+-- nearest loop" (12.8: break)
+abbrev pub loop : ℕ → Command → Command → Command → Command → Command
+loop s head body step end = catch out-of-loop (atLeast s (round head body step) end)
+
+-- "condition, body, step in turn; while asks its condition before each round" (12.7.1, 12.7.4)
+abbrev pub whileTrue : ℕ → Evaluation → Command → Command → Command
+whileTrue s c body step = loop s (c .truth is-true) body step (unmet c)
+
+-- "repeat and forever give 1 before a round, or repeat 0 to run no more" (12.7.2, 12.7.6)
+abbrev pub repeated : ℕ → Command → Command → Command
+repeated s body end = loop s (emit (choice 1)) body skip end
+
+-- "leaves the nearest loop or only its round, either one freely" (12.8); any other disable falls through, outside the premises
+-- (9.6.2)
+abbrev pub jump : Bool → Command
+jump true = alt (seq (emit (choice 0)) (exit leaves)) (seq (emit (choice 1)) (exit again))
+jump false = skip
+
+-- "a two-segment task path with no mention, arguments included, does nothing at any effect"
+abbrev pub isPassedOver : ℕ → Forest → Bool
+isPassedOver x cs = eqb (segments cs) 2 && (not (begins x cs) && not (refers Held x cs))
+
+-- "A task with effect 1 writes, 0 does nothing, 2 and 3 read" (13.3, 13.5)
+abbrev pub byEffect : ℕ → Command
+byEffect effect = cond (eqb effect 0) skip (cond (eqb effect 1) (emit write) (emit read))
+
+-- "Delay, event, wait: their expressions, then the body; a wait goes on only when its expression is true" (9.4.3)
+abbrev pub waitFor : Evaluation → Command → Command
+waitFor c body = alt (seq (c .truth is-true) body) (seq (unmet c) (exit stops))
+
+-- "Assignment: right side, delay, event, target selects, then the write if the target is the plain local" (10.4.1, 9.4.5)
+abbrev pub assignment : List Evaluation → Evaluation → Evaluation → Evaluation → Command
+assignment delays event target right = seq (right .value) (seq (inOrder delays) (seq (event .value) (target .store)))
+
+-- a row from its class, side, children, their evaluations, the evaluations of what each child holds, and their executions.
+-- "Nonblocking: right side only" (10.4.2). "Return evaluates its value and ends the path" (12.8). "A systask evaluates its
+-- arguments; null does nothing" (20, 12.3). Delay and event control: 9.4.1, 9.4.2. "Fork counts as a read" (9.3.2), "and so do the
+-- unmodelled forms".
+abbrev pub executionOf : ℕ → (ℕ → Bool) → StmtClass → ℕ → Forest → List Evaluation → List (List Evaluation) → List Execution → Execution
+executionOf x marks Match s cs es held rs = record { run = nth noExecution 0 rs .run; labels = tail es; isDefault = false }
+executionOf x marks Default s cs es held rs = record { run = nth noExecution 0 rs .run; labels = []; isDefault = true }
+executionOf x marks Decl s cs es held rs = plain (nth noEvaluation 0 es .value)
+executionOf x marks Blocking s cs es held rs = plain (assignment (nth [] 0 held) (nth noEvaluation 1 es) (nth noEvaluation 2 es) (nth noEvaluation 3 es))
+executionOf x marks Nonblocking s cs es held rs = plain (nth noEvaluation 3 es .value)
+executionOf x marks If s cs es held rs = plain (ifElse (nth noEvaluation 0 es) (nth noExecution 1 rs) (nth noExecution 2 rs))
+executionOf x marks Return s cs es held rs = plain (seq (nth noEvaluation 0 es .value) (exit stops))
+executionOf x marks Case s cs es held rs = plain (caseOf (nth noEvaluation 0 es) (tail rs))
+executionOf x marks For s cs es held rs = plain (seq (nth noExecution 0 rs .run) (whileTrue s (nth noEvaluation 1 es) (nth noExecution 3 rs .run) (nth noExecution 2 rs .run)))
+executionOf x marks While s cs es held rs = plain (whileTrue s (nth noEvaluation 0 es) (nth noExecution 1 rs .run) skip)
+executionOf x marks Repeat s cs es held rs = plain (seq (nth noEvaluation 0 es .value) (repeated s (nth noExecution 1 rs .run) (emit (choice 0))))
+executionOf x marks Forever s cs es held rs = plain (repeated s (nth noExecution 0 rs .run) (exit stops))
+executionOf x marks Block s cs es held rs = plain (oneByOne rs)
+executionOf x marks Fork s cs es held rs = plain (emit outside)
+executionOf x marks Systask s cs es held rs = plain (inOrder es)
+executionOf x marks Task s cs es held rs = plain (cond (isPassedOver x cs) skip (byEffect (taskEffect s)))
+executionOf x marks Delayctrl s cs es held rs = plain (seq (inOrder (nth [] 0 held)) (nth noExecution 1 rs .run))
+executionOf x marks Eventctrl s cs es held rs = plain (seq (nth noEvaluation 0 es .value) (nth noExecution 1 rs .run))
+executionOf x marks Wait s cs es held rs = plain (waitFor (nth noEvaluation 0 es) (nth noExecution 1 rs .run))
+executionOf x marks Disable s cs es held rs = plain (jump (isLoopJump marks cs))
+executionOf x marks Null s cs es held rs = plain skip
+executionOf x marks Unmodelled s cs es held rs = plain (emit outside)
+executionOf x marks Absent s cs es held rs = noExecution
+executionOf x marks NoStmt s cs es held rs = noExecution
+
+-- the evaluations of what a row holds
+unfoldable pub heldAt : ℕ → Alg (List Evaluation)
+heldAt x k s lo hi cs held = evaluations x cs
+
+-- of each of these siblings
+abbrev pub heldEvaluations : ℕ → Forest → List (List Evaluation)
+heldEvaluations x = fold (heldAt x)
+
+-- a row by its kind number
+unfoldable pub executionAt : ℕ → (ℕ → Bool) → Alg Execution
+executionAt x marks k s lo hi cs rs = executionOf x marks (stmtClass k) s cs (evaluations x cs) (heldEvaluations x cs) rs
+
+-- how each of these siblings runs, for the local x and the names that are marked as jumps
+abbrev pub executions : ℕ → (ℕ → Bool) → Forest → List Execution
+executions x marks = fold (executionAt x marks)
+
+-- "A path starts at row 0": what row 0 does
+abbrev pub executed : ℕ → (ℕ → Bool) → Forest → Command
+executed x marks f = nth noExecution 0 (executions x marks f) .run
+
+-- "and is the list of the reads and writes named here", with the choices
+pub record IsPath (x : ℕ) (marks : ℕ → Bool) (f : Forest) (t : List PathEvent) : Type 0 where
+  pub ending : Ending
+  pub runs : Runs (executed x marks f) t ending
