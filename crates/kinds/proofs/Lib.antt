@@ -5,3 +5,4 @@ pub mod Steps
 pub mod Keys
 pub mod Words
 pub mod Named
+pub mod Classes

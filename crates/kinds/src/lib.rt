@@ -5,7 +5,7 @@ ghost use mathlib.Core.List.{List, _∷_, map};
 ghost use Prim.Native.Nat.{ℕ};
 ghost use Rattle.kinds.specs.Kinds.{Item, Sides, kinds as kindList, inClass, S, sideFits, takes};
 ghost use Rattle.kinds.specs.Words.{kindOf};
-ghost use Rattle.kinds.specs.Named.{exprClass};
+ghost use Rattle.kinds.specs.Named.{exprClass, stmtClass};
 ghost use Rattle.kinds.specs.Numbers.{numbers, sidesNumber, itemsNumber, sideBelow, ofFirst, takesFirst, repeatsFirst, restFirst, afterFirst, letters, key, twelveFrom, KeyTold, KindTold};
 
 // What the table holds of a kind: how many side numbers it has, 0 for as many as there are names, and its children, four
@@ -452,6 +452,48 @@ pub fn expr_class(kind: usize) -> ExprClass
         59 => ExprClass::Opaque,
         60 => ExprClass::Lident,
         _ => ExprClass::Other,
+    }
+}
+
+// What the rules of statements call a kind.
+pub fn stmt_class(kind: usize) -> StmtClass
+    ensures { λ r. ⌜ r ≡ stmtClass kind ⌝ }
+{
+    match kind {
+        0 => StmtClass::Absent,
+        8 => StmtClass::Match,
+        9 => StmtClass::Default,
+        10 => StmtClass::Decl,
+        11 => StmtClass::Blocking,
+        12 => StmtClass::Nonblocking,
+        13 => StmtClass::If,
+        14 => StmtClass::Return,
+        15 => StmtClass::Case,
+        16 => StmtClass::For,
+        17 => StmtClass::While,
+        18 => StmtClass::Repeat,
+        19 => StmtClass::Forever,
+        20 => StmtClass::Block,
+        21 => StmtClass::Fork,
+        22 => StmtClass::Systask,
+        23 => StmtClass::Task,
+        24 => StmtClass::Unmodelled,
+        25 => StmtClass::Delayctrl,
+        26 => StmtClass::Eventctrl,
+        27 => StmtClass::Unmodelled,
+        28 => StmtClass::Wait,
+        29 => StmtClass::Disable,
+        30 => StmtClass::Unmodelled,
+        31 => StmtClass::Unmodelled,
+        32 => StmtClass::Unmodelled,
+        33 => StmtClass::Unmodelled,
+        34 => StmtClass::Unmodelled,
+        35 => StmtClass::Unmodelled,
+        36 => StmtClass::Unmodelled,
+        37 => StmtClass::Unmodelled,
+        38 => StmtClass::Null,
+        39 => StmtClass::Unmodelled,
+        _ => StmtClass::NoStmt,
     }
 }
 

@@ -16,7 +16,7 @@ use Rattle.reads.specs.declared.Iff.the-variants.{Held}
 use Rattle.reads.specs.Mentions.{mentions, refers}
 use Rattle.reads.proofs.Trees.{refers-node, refers-row}
 use Rattle.paths.specs.Marks.{Mark, full, none, _⊑_}
-use Rattle.paths.specs.Commands.{PathEvent, read, write, choice, Ending, falls, stops, leaves, again, Command, skip, emit, seq, alt, Runs, run-stop, run-skip, run-emit, run-emit-stop, run-seq, run-off, run-left, run-right}
+use Rattle.paths.specs.Commands.{PathEvent, read, write, choice, Ending, falls, stops, leaves, again, NoJump, Command, skip, emit, seq, alt, Runs, run-stop, run-skip, run-emit, run-emit-stop, run-seq, run-off, run-left, run-right}
 use Rattle.paths.specs.Triples.{at, never, Ends, Triple}
 use Rattle.paths.specs.Evaluation.{Truth, is-true, is-false, choiceOf, Evaluation, free, asked, both, either, inOrder, readIf, writeIf, noEvaluation, evaluationOf, evaluationAt, evaluations}
 use Rattle.paths.specs.Evaluates.{Evaluates, AllEvaluate, no-more, one-more}
@@ -31,12 +31,6 @@ pub data Built (P : PathEvent → Type 0) : Command → Type 0 where
   of-emit : {e : PathEvent} → P e → Built P (emit e)
   of-seq : {c d : Command} → Built P c → Built P d → Built P (seq c d)
   of-alt : {c d : Command} → Built P c → Built P d → Built P (alt c d)
-
-abbrev NoJump : Ending → Type 0
-NoJump falls = Unit
-NoJump stops = Unit
-NoJump leaves = ⊥
-NoJump again = ⊥
 
 never-jumps : {P : PathEvent → Type 0} {c : Command} {t : List PathEvent} {o : Ending} → Built P c → Runs c t o → NoJump o
 never-jumps b run-stop = tt

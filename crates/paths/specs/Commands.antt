@@ -51,6 +51,13 @@ Elsewhere stops = Unit
 Elsewhere leaves = Unit
 Elsewhere again = Unit
 
+-- not by a loop jump
+abbrev pub NoJump : Ending → Type 0
+NoJump falls = Unit
+NoJump stops = Unit
+NoJump leaves = ⊥
+NoJump again = ⊥
+
 -- What a command can do. A path "may stop anywhere": before a command, and after its event.
 pub data Runs : Command → List PathEvent → Ending → Type 0 where
   run-stop : {c : Command} → Runs c [] stops

@@ -1,18 +1,21 @@
 -- What the functions answer, from what stands in the code where they return.
 use Prim.Native.Nat.{ℕ, _+_, _≤_, _<_}
 use mathlib.Core.Path.{_≡_, refl, sym, ap, _∙_}
-use mathlib.Core.Bool.{Bool, true, false, cond, _||_}
-use mathlib.Core.List.{List}
+use mathlib.Core.Bool.{Bool, true, false}
+use mathlib.Core.List.{List, [], _∷_}
 use native.Mathlib.Omega.{arith}
 use lib.Dec.{eqb}
 use borrow.Author.Tests.{ne-eqb}
+use denote.Enum.Declared.{tagOf}
+use types.Run.{OneOf}
 use Rattle.table.specs.Rows.{kindAt, sideAt, endAt, Forest, tree, Nested, RowEnd, NextRow}
 use Rattle.table.proofs.Ranges.{children}
 use Rattle.table.proofs.Tree.{tree-none, tree-some}
 use Rattle.kinds.specs.declared.ExprClass.{ExprClass}
-use Rattle.kinds.specs.Kinds.{kinds}
-use Rattle.kinds.specs.Words.{same, placeFrom, kindOf}
-use Rattle.kinds.specs.Named.{exprClass, kindNumber, numbered}
+use Rattle.kinds.specs.declared.StmtClass.{StmtClass}
+use Rattle.kinds.proofs.StmtClass.{the-type}
+use Rattle.kinds.proofs.Classes.{last-arm}
+use Rattle.kinds.specs.Named.{exprClass, stmtClass}
 use Rattle.reads.specs.declared.Role.{Role}
 use Rattle.reads.specs.declared.Role.the-variants.{ByPath}
 use Rattle.reads.specs.declared.Iff.{Iff}
@@ -21,7 +24,7 @@ use Rattle.reads.specs.declared.Mention.{Mention}
 use Rattle.reads.specs.declared.Mention.the-variants.{At, Nowhere}
 use Rattle.reads.specs.PathRows.{isNamed, begins, count, segments}
 use Rattle.reads.specs.Mentions.{roleOf, mentionsBy, hasIff, mentionsAt, skipsIff, mentionIn, MentionTold}
-use Rattle.reads.specs.NoRef.{exprNoRef, Vetting, nothing, children as all-children, two-segments, not-vetted, vetting, vetted, stmtNoRef}
+use Rattle.reads.specs.NoRef.{exprNoRef, two-segments, not-vetted, vetting, vetted, stmtNoRef}
 use Rattle.reads.proofs.Scan.{orElse, mention-none, mention-here, mention-row, mention-event, found-refers, nowhere-refers, mention-told}
 
 -- begins_with
@@ -135,27 +138,27 @@ module _ (x : ℕ) (f : Forest) (n : ℕ) (e : n ≡ segments f) where
 
 pub ruleset task-answers = (task-other, task-begins, task-arguments)
 
--- stmt_no_ref, by the kind's number
-abbrev byNumber : ℕ → Vetting
-byNumber k = cond (eqb k 38) nothing (cond (eqb k 11 || (eqb k 12 || eqb k 22)) all-children (cond (eqb k 23) two-segments not-vetted))
-
-vetting-numbers : (k : ℕ) → vetting k ≡ byNumber k
-unfolding vetting numbered kindNumber kindOf placeFrom kinds same
-vetting-numbers k = refl
-
+-- stmt_no_ref, by the class that it found
 pub stmt-none : (x : ℕ) (rows : List ℕ) (from to : ℕ) → to ≤ from → false ≡ stmtNoRef x (tree rows from to)
 unfolding stmtNoRef
 stmt-none x rows from to h = rw (tree-none rows from to h)
 
-module _ (x : ℕ) (rows : List ℕ) (from to k : ℕ) (g : Nested rows from to) (h : from < to) (p : k ≡ kindAt rows from) where
-  stmt-first : stmtNoRef x (tree rows from to) ≡ vetted (byNumber k) x (tree rows (from + 1) (endAt rows from))
+-- the tags of the classes that are not vetted, after the first
+abbrev otherTags : List ℕ
+otherTags = 1 ∷ 2 ∷ 3 ∷ 6 ∷ 7 ∷ 8 ∷ 9 ∷ 10 ∷ 11 ∷ 12 ∷ 13 ∷ 14 ∷ 17 ∷ 18 ∷ 19 ∷ 20 ∷ 22 ∷ 23 ∷ []
+
+unvetted : (c : StmtClass) → OneOf (0 ∷ otherTags) (tagOf the-type c) → vetting c ≡ not-vetted
+unvetted c o = last-arm vetting not-vetted 0 otherTags c refl o
+
+module _ (x : ℕ) (rows : List ℕ) (from to k : ℕ) (c : StmtClass) (g : Nested rows from to) (h : from < to) (p : k ≡ kindAt rows from) (q : c ≡ stmtClass k) where
+  stmt-first : stmtNoRef x (tree rows from to) ≡ vetted (vetting c) x (tree rows (from + 1) (endAt rows from))
   unfolding stmtNoRef
-  stmt-first = rw (tree-some g h, ← p, vetting-numbers k)
+  stmt-first = rw (tree-some g h, ← p, ← q)
 
-  pub stmt-vetted : (n end : ℕ) (r : Bool) → RowEnd rows from to end → k ≡ n → r ≡ vetted (byNumber n) x (tree rows (from + 1) end) → r ≡ stmtNoRef x (tree rows from to)
-  stmt-vetted n end r t e v = rw (stmt-first, e, ← t .is) v
+  pub stmt-vetted : (class : StmtClass) (end : ℕ) (r : Bool) → RowEnd rows from to end → c ≡ class → r ≡ vetted (vetting class) x (tree rows (from + 1) end) → r ≡ stmtNoRef x (tree rows from to)
+  stmt-vetted class end r t e v = rw (stmt-first, e, ← t .is) v
 
-  pub stmt-other : (k ≡ 38 → ⊥) → (k ≡ 11 → ⊥) → (k ≡ 12 → ⊥) → (k ≡ 22 → ⊥) → (k ≡ 23 → ⊥) → false ≡ stmtNoRef x (tree rows from to)
-  stmt-other a b c d e = rw (stmt-first, ne-eqb k 38 a, ne-eqb k 11 b, ne-eqb k 12 c, ne-eqb k 22 d, ne-eqb k 23 e)
+  pub stmt-other : OneOf (0 ∷ otherTags) (tagOf the-type c) → false ≡ stmtNoRef x (tree rows from to)
+  stmt-other o = rw (stmt-first, unvetted c o)
 
 pub ruleset stmt-answers = (stmt-none, stmt-vetted, stmt-other)

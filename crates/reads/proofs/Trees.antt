@@ -8,7 +8,7 @@ use Rattle.table.specs.Rows.{Forest, nil, node, rest}
 use Rattle.table.specs.Fold.{fold, nth, tail, Pairwise, no-pair, pair}
 use Rattle.table.proofs.Fold.{related-at}
 use Rattle.kinds.specs.declared.ExprClass.the-variants.{Event}
-use Rattle.kinds.specs.Named.{exprClass}
+use Rattle.kinds.specs.Named.{exprClass, stmtClass}
 use lib.Dec.{eqb}
 use Rattle.kinds.proofs.Below.{both-true, true-not-false}
 use Rattle.reads.specs.declared.Iff.{Iff}
@@ -139,6 +139,6 @@ vetted-clear children x cs n e = not-true (refers Skipped x cs) e
 vetted-clear two-segments x cs n e = not-true (refers Skipped x cs) (both-true (not (begins x cs)) (exprNoRef x cs) (both-true (eqb (segments cs) 2) (not (begins x cs) && exprNoRef x cs) e .1) .1)
 vetted-clear not-vetted x cs n e = true-not-false (sym e)
 
-pub stmt-clear : (x k s lo hi : ℕ) (cs others : Forest) → (vetting k ≡ nothing → ⊥) → stmtNoRef x (node k s lo hi cs others) ≡ true → refers Skipped x cs ≡ false
+pub stmt-clear : (x k s lo hi : ℕ) (cs others : Forest) → (vetting (stmtClass k) ≡ nothing → ⊥) → stmtNoRef x (node k s lo hi cs others) ≡ true → refers Skipped x cs ≡ false
 unfolding stmtNoRef
-stmt-clear x k s lo hi cs others n e = vetted-clear (vetting k) x cs n e
+stmt-clear x k s lo hi cs others n e = vetted-clear (vetting (stmtClass k)) x cs n e

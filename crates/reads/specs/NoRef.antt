@@ -1,9 +1,11 @@
 -- The uses of the reference test, by their names in da/reads.rs. Definitions only.
 use Prim.Native.Nat.{ℕ}
-use mathlib.Core.Bool.{Bool, true, false, cond, _&&_, _||_, not}
+use mathlib.Core.Bool.{Bool, true, false, _&&_, not}
 use lib.Dec.{eqb}
 use Rattle.table.specs.Rows.{Forest, nil, node}
-use Rattle.kinds.specs.Named.{numbered}
+use Rattle.kinds.specs.declared.StmtClass.{StmtClass}
+use Rattle.kinds.specs.declared.StmtClass.the-variants.{Absent, Match, Default, Decl, Blocking, Nonblocking, If, Return, Case, For, While, Repeat, Forever, Block, Fork, Systask, Task, Delayctrl, Eventctrl, Wait, Disable, Null, Unmodelled, NoStmt}
+use Rattle.kinds.specs.Named.{stmtClass}
 use Rattle.reads.specs.declared.Iff.the-variants.{Skipped}
 use Rattle.reads.specs.PathRows.{begins, segments}
 use Rattle.reads.specs.Mentions.{refers}
@@ -24,18 +26,37 @@ sensitivityNoRef = exprNoRef
 abbrev pub intraEventNoRef : ℕ → Forest → Bool
 intraEventNoRef = exprNoRef
 
--- how stmt_no_ref treats a statement, by its kind
+-- how stmt_no_ref treats a statement
 pub data Vetting : Type 0 where
   nothing children two-segments not-vetted : Vetting
 
 -- stmt_no_ref's arms: a null statement; assignments and system tasks by all that they hold; a task; "any statement form not
 -- fully vetted"
-unfoldable pub vetting : ℕ → Vetting
-vetting k =
-    cond (eqb k (numbered "null")) nothing
-    (cond (eqb k (numbered "blocking") || (eqb k (numbered "nonblocking") || eqb k (numbered "systask"))) children
-    (cond (eqb k (numbered "task")) two-segments
-    not-vetted))
+abbrev pub vetting : StmtClass → Vetting
+vetting Null = nothing
+vetting Blocking = children
+vetting Nonblocking = children
+vetting Systask = children
+vetting Task = two-segments
+vetting Absent = not-vetted
+vetting Match = not-vetted
+vetting Default = not-vetted
+vetting Decl = not-vetted
+vetting If = not-vetted
+vetting Return = not-vetted
+vetting Case = not-vetted
+vetting For = not-vetted
+vetting While = not-vetted
+vetting Repeat = not-vetted
+vetting Forever = not-vetted
+vetting Block = not-vetted
+vetting Fork = not-vetted
+vetting Delayctrl = not-vetted
+vetting Eventctrl = not-vetted
+vetting Wait = not-vetted
+vetting Disable = not-vetted
+vetting Unmodelled = not-vetted
+vetting NoStmt = not-vetted
 
 -- the answer of each arm; a task is vetted "if cn.segments.len() == 2", by its first segment and its arguments
 abbrev pub vetted : Vetting → ℕ → Forest → Bool
@@ -47,4 +68,4 @@ vetted not-vetted x cs = false
 -- stmt_no_ref of the first of these siblings; where there is none, nothing is vetted
 unfoldable pub stmtNoRef : ℕ → Forest → Bool
 stmtNoRef x nil = false
-stmtNoRef x (node k s lo hi cs others) = vetted (vetting k) x cs
+stmtNoRef x (node k s lo hi cs others) = vetted (vetting (stmtClass k)) x cs

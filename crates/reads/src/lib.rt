@@ -1,5 +1,6 @@
 // The reference test: one flat pass over the rows of a range, and its uses by their names in da/reads.rs.
 use kinds::ExprClass;
+use kinds::StmtClass;
 ghost use mathlib.Core.Path.{_≡_};
 ghost use Prim.Native.Nat.{_+_, _*_, _<_};
 ghost use lib.ListN.{length};
@@ -212,14 +213,14 @@ pub fn stmt_no_ref(rows: &[u32], local: usize, from: usize, to: usize) -> bool
     if to <= from {
         return false;
     }
-    let kind = table::kind_at(rows, from);
+    let class = kinds::stmt_class(table::kind_at(rows, from));
     let end = table::row_end(rows, from, to);
-    match kind {
-        38 => true, // null
-        11 => no_ref(rows, local, from + 1, end), // blocking
-        12 => no_ref(rows, local, from + 1, end), // nonblocking
-        22 => no_ref(rows, local, from + 1, end), // systask
-        23 => task_no_ref(rows, local, from + 1, end), // task
+    match class {
+        StmtClass::Null => true,
+        StmtClass::Blocking => no_ref(rows, local, from + 1, end),
+        StmtClass::Nonblocking => no_ref(rows, local, from + 1, end),
+        StmtClass::Systask => no_ref(rows, local, from + 1, end),
+        StmtClass::Task => task_no_ref(rows, local, from + 1, end),
         _ => false,
     }
 }

@@ -117,7 +117,7 @@ assignment delays event target right = seq (right .value) (seq (inOrder delays) 
 
 -- a row from its class, side, children, their evaluations, the evaluations of what each child holds, and their executions.
 -- "Nonblocking: right side only" (10.4.2). "Return evaluates its value and ends the path" (12.8). "A systask evaluates its
--- arguments; null does nothing" (20, 12.3). Delay and event control: 9.4.1, 9.4.2. "Fork counts as a read" (9.3.2), "and so do the
+-- arguments; null does nothing" (20, A.6.4). Delay and event control: 9.4.1, 9.4.2. "Fork counts as a read" (9.3.2), "and so do the
 -- unmodelled forms".
 abbrev pub executionOf : ℕ → (ℕ → Bool) → StmtClass → ℕ → Forest → List Evaluation → List (List Evaluation) → List Execution → Execution
 executionOf x marks Match s cs es held rs = record { run = nth noExecution 0 rs .run; labels = tail es; isDefault = false }

@@ -86,3 +86,8 @@ pub related-at : {A B : Type 0} {R : A → B → Type 0} (d : A) (e : B) {xs : L
 related-at d e n r no-pair = r
 related-at d e zero r (pair h hs) = h
 related-at d e (suc n) r (pair h hs) = related-at d e n r hs
+
+-- and at the places after the first
+pub related-tail : {A B : Type 0} {R : A → B → Type 0} {xs : List A} {ys : List B} → Pairwise R xs ys → Pairwise R (tail xs) (tail ys)
+related-tail no-pair = no-pair
+related-tail (pair h hs) = hs

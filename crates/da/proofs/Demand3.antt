@@ -1,0 +1,54 @@
+-- Demand 3 over trees, and what the accepted answers say of a path that goes on.
+use mathlib.Core.Path.{_≡_, refl, sym, subst}
+use mathlib.Core.Bool.{Bool, true}
+use mathlib.Core.List.{List}
+use Prim.Native.Nat.{ℕ}
+use Rattle.table.specs.Rows.{Forest}
+use Rattle.table.proofs.Fold.{related-at}
+use Rattle.reads.specs.Iffs.{iffQuiet}
+use Rattle.paths.specs.Marks.{Mark, none, ⊑-refl}
+use Rattle.paths.specs.Commands.{PathEvent, Ending, falls, Command, Runs}
+use Rattle.paths.specs.Triples.{Claim, at, never, Triple}
+use Rattle.paths.specs.Written.{Written, ReadsWritten}
+use Rattle.paths.proofs.Rules.{good-never}
+use Rattle.paths.proofs.Meaning.{reads-written, fall-is-written}
+use Rattle.stmt_paths.specs.Execution.{noExecution, executed}
+use Rattle.stmt_paths.proofs.PremiseTest.{premises-iff}
+use Rattle.da.specs.declared.DaOut.the-variants.{Falls, Jumps}
+use Rattle.da.specs.declared.DaResult.{DaResult}
+use Rattle.da.specs.declared.DaResult.the-variants.{Ok}
+use Rattle.da.specs.Outcome.{State, unwritten, written, Accepted}
+use Rattle.da.specs.Walk.{DaCtx, daCtx, noWalk, daStmt}
+use Rattle.da.specs.Demand3.{Demand3, NothingSlips, FallsWritten, NeverFalls}
+use Rattle.da.proofs.Known.{known, known-unwritten, known-written}
+use Rattle.da.proofs.Sound.{Sound, sound-falls, sound-jumps, sound-stop}
+use Rattle.da.proofs.Law.{no-law}
+use Rattle.da.proofs.Rows.{stmt-laws}
+
+-- the answer for row 0 is sound
+first-sound : (ctx : DaCtx) (f : Forest) (start : State) → iffQuiet (ctx .local) f ≡ true → Sound (known start) (executed (ctx .local) (ctx .marks) f) (daStmt ctx f start)
+first-sound ctx f start q = related-at noWalk noExecution 0 no-law (stmt-laws ctx f q) .sound start
+
+accepted-reads : {c : Command} {r : DaResult} {t : List PathEvent} {o : Ending} → Sound none c r → Accepted r → Runs c t o → ReadsWritten t
+accepted-reads (sound-falls h) a x = reads-written h x
+accepted-reads (sound-jumps h) a x = reads-written h x
+accepted-reads sound-stop a x = absurd a
+
+pub nothing-slips : NothingSlips
+nothing-slips x marks sole f a q t p = accepted-reads (rw known-unwritten at (first-sound (daCtx x marks sole) f unwritten q)) a (p .runs)
+
+-- the demand in its own words
+pub demand-3 : Demand3
+demand-3 x marks sole f a h t p = nothing-slips x marks sole f a (premises-iff x marks f h) t p
+
+written-falls : {c : Command} {t : List PathEvent} → Sound none c (Ok (Falls written)) → Runs c t falls → Written t
+written-falls {t = t} (sound-falls h) x = fall-is-written t (rw known-written at h) x
+
+pub falls-written : FallsWritten
+falls-written x marks sole f e q t x′ = written-falls (subst (Sound none (executed x marks f)) e (rw known-unwritten at (first-sound (daCtx x marks sole) f unwritten q))) x′
+
+jumps-never : {a : Mark} {c : Command} {t : List PathEvent} → Sound a c (Ok Jumps) → Runs c t falls → ⊥
+jumps-never {a} {t = t} (sound-jumps h) x = good-never t a (h .go a ⊑-refl t falls x)
+
+pub never-falls : NeverFalls
+never-falls x marks sole f start e q t x′ = jumps-never (subst (Sound (known start) (executed x marks f)) e (first-sound (daCtx x marks sole) f start q)) x′

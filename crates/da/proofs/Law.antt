@@ -1,0 +1,29 @@
+-- The law of a statement: what the walk of a row says of every run of it.
+use mathlib.Core.Path.{_≡_, refl}
+use mathlib.Core.Bool.{Bool, true}
+use mathlib.Core.List.{List}
+use Rattle.table.specs.Fold.{Pairwise, no-pair}
+use Rattle.paths.specs.Marks.{Mark}
+use Rattle.paths.specs.Commands.{Command, skip}
+use Rattle.paths.specs.Triples.{at, never, Triple}
+use Rattle.paths.proofs.Rules.{rule-skip}
+use Rattle.expr_effect.specs.Law.{ExprLaw}
+use Rattle.stmt_paths.specs.Execution.{Execution, plain, noExecution}
+use Rattle.da.specs.declared.DaResult.{DaResult}
+use Rattle.da.specs.Outcome.{State}
+use Rattle.da.specs.Walk.{Walk, stmt, noWalk}
+use Rattle.da.proofs.Known.{known}
+use Rattle.da.proofs.Sound.{Sound, sound-falls}
+
+pub record StmtLaw (w : Walk) (e : Execution) : Type 0 where
+  -- from every state, the answer is sound
+  pub sound : (a : State) → Sound (known a) (e .run) (w .walk a)
+  -- an arm's labels, and which arms are defaults
+  pub labels : Pairwise ExprLaw (w .labels) (e .labels)
+  pub default : w .isDefault ≡ e .isDefault
+  -- where no statement stands, nothing is run
+  pub absent : w .isAbsent ≡ true → (m : Mark) → Triple m (e .run) (at m) never
+
+-- what stands where a child is missing
+pub no-law : StmtLaw noWalk noExecution
+no-law = record { sound = λ a. sound-falls rule-skip; labels = no-pair; default = refl; absent = λ q m. rule-skip }

@@ -1,0 +1,3 @@
+pub mod Outcome
+pub mod Walk
+pub mod Demand3
