@@ -1,14 +1,12 @@
 -- What the walk's questions about expressions say of their evaluations. Of expressions only the law is cited.
 use mathlib.Core.Path.{_≡_, refl}
-use mathlib.Core.Bool.{Bool, true, false, cond, _&&_, not}
-use mathlib.Core.List.{List, [], _∷_}
-use Prim.Native.Nat.{ℕ}
+use mathlib.Core.Bool.{Bool, true, false, _&&_, not}
+use mathlib.Core.List.{List}
 use Rattle.table.specs.Fold.{Pairwise, no-pair, pair}
 use Rattle.kinds.proofs.Below.{true-not-false}
-use Rattle.paths.specs.Marks.{Mark, full, none, ⊑-refl, none-⊑}
-use Rattle.paths.specs.Commands.{Command}
+use Rattle.paths.specs.Marks.{Mark, full, ⊑-refl, none-⊑}
 use Rattle.paths.specs.Triples.{Triple, at, never}
-use Rattle.paths.specs.Evaluation.{Evaluation, Truth}
+use Rattle.paths.specs.Evaluation.{Evaluation, Truth, is-false}
 use Rattle.paths.specs.Evaluates.{Evaluates, AllEvaluate, no-more, one-more}
 use Rattle.paths.proofs.Rules.{less, nowhere, weaken}
 use Rattle.paths.proofs.Evaluating.{evaluates-lift, evaluates-from}
@@ -16,12 +14,13 @@ use Rattle.expr_effect.specs.declared.ExprDa.{ExprDa}
 use Rattle.expr_effect.specs.declared.ExprDa.the-variants.{Clean, Writes, Reads}
 use Rattle.expr_effect.specs.Effect.{writesWhen}
 use Rattle.expr_effect.specs.Law.{EffectLaw, Meets, WhenLaw, ExprFacts, NoneRefer, none-left, and-more, ExprLaw}
+use Rattle.stmt_paths.specs.Execution.{unmet}
 use Rattle.da.specs.declared.DaGiveUp.{DaGiveUp}
 use Rattle.da.specs.declared.DaResult.{DaResult}
 use Rattle.da.specs.declared.DaResult.the-variants.{Err}
 use Rattle.da.specs.Outcome.{State, isWritten, gains}
 use Rattle.da.specs.Walk.{isReads, isWrites, exprReads, exprOutWrites, unlessRead, unlessOneRead, evaluated, once}
-use Rattle.da.proofs.Known.{known, known-all, known-gains, known-gained, gains-nothing}
+use Rattle.da.proofs.Known.{known, known-all, known-gained, gains-nothing}
 use Rattle.da.proofs.Sound.{unless}
 
 -- the question of reason 2, answered no
@@ -60,6 +59,10 @@ pub record After (f : ExprFacts) (a : State) (e : Evaluation) : Type 0 where
   pub evaluates : Evaluates (known a) (known (gains (exprOutWrites f) a)) e
   -- and once its truth has come out as wanted
   pub once-so : (want : Bool) (t : Truth) → Meets want t → Triple (known a) (e .truth t) (at (known (once f want (gains (exprOutWrites f) a)))) never
+
+-- once it has not come out true
+pub once-unmet : {f : ExprFacts} {a : State} {e : Evaluation} → After f a e → Triple (known a) (unmet e) (at (known (once f false (gains (exprOutWrites f) a)))) never
+once-unmet h = h .once-so false is-false tt
 
 module _ {f : ExprFacts} {e : Evaluation} (l : ExprLaw f e) (a : State) where
   pub asked-keeps : NotRead (f .effects .effect) a → Evaluates (known a) (known a) e

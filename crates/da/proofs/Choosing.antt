@@ -1,23 +1,23 @@
 -- The arms of a case: what the walk claims of them holds whichever is chosen.
-use mathlib.Core.Path.{_≡_, refl, sym, _∙_}
-use mathlib.Core.Bool.{Bool, true, false, cond, _&&_, _||_, not}
+use mathlib.Core.Path.{_≡_, refl, sym}
+use mathlib.Core.Bool.{Bool, true, false, cond, _&&_, not}
 use mathlib.Core.List.{List, [], _∷_}
 use Prim.Native.Nat.{ℕ, suc}
 use Rattle.table.specs.Fold.{Pairwise, no-pair, pair}
-use Rattle.paths.specs.Marks.{Mark, full, none, ⊑-refl, none-⊑}
-use Rattle.paths.specs.Commands.{choice, Command, skip, emit, seq}
+use Rattle.paths.specs.Marks.{Mark, none}
+use Rattle.paths.specs.Commands.{Command, skip}
 use Rattle.paths.specs.Triples.{at, never, Triple}
 use Rattle.paths.specs.Evaluation.{inOrder}
-use Rattle.paths.proofs.Rules.{less, weaken, rule-skip, rule-choice, rule-stops, rule-seq, rule-alt}
+use Rattle.paths.proofs.Rules.{rule-skip, rule-choice, rule-stops, rule-seq, rule-alt}
 use Rattle.paths.proofs.Evaluating.{in-order}
-use Rattle.stmt_paths.specs.Execution.{Execution, allLabels, hasDefault as defaultStands, noArm, armsFrom}
+use Rattle.stmt_paths.specs.Execution.{Execution, allLabels, hasDefault as defaultStands, armsFrom}
 use Rattle.da.specs.declared.DaOut.{DaOut}
 use Rattle.da.specs.declared.DaOut.the-variants.{Falls, Jumps}
 use Rattle.da.specs.declared.DaGiveUp.{DaGiveUp}
 use Rattle.da.specs.declared.DaResult.{DaResult}
 use Rattle.da.specs.declared.DaResult.the-variants.{Ok, Err}
 use Rattle.da.specs.Outcome.{State, isWritten, merge, _▷_}
-use Rattle.da.specs.Walk.{Walk, unlessOneRead, arms, hasDefault}
+use Rattle.da.specs.Walk.{Walk, arms, hasDefault}
 use Rattle.da.proofs.Known.{known}
 use Rattle.da.proofs.Asking.{unless-one-read}
 use Rattle.da.proofs.Merging.{merge-assoc}

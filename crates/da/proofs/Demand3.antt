@@ -1,14 +1,13 @@
 -- Demand 3 over trees, and what the accepted answers say of a path that goes on.
-use mathlib.Core.Path.{_≡_, refl, sym, subst}
-use mathlib.Core.Bool.{Bool, true}
+use mathlib.Core.Path.{_≡_, subst}
+use mathlib.Core.Bool.{true}
 use mathlib.Core.List.{List}
-use Prim.Native.Nat.{ℕ}
 use Rattle.table.specs.Rows.{Forest}
 use Rattle.table.proofs.Fold.{related-at}
 use Rattle.reads.specs.Iffs.{iffQuiet}
 use Rattle.paths.specs.Marks.{Mark, none, ⊑-refl}
 use Rattle.paths.specs.Commands.{PathEvent, Ending, falls, Command, Runs}
-use Rattle.paths.specs.Triples.{Claim, at, never, Triple}
+use Rattle.paths.specs.Triples.{at}
 use Rattle.paths.specs.Written.{Written, ReadsWritten}
 use Rattle.paths.proofs.Rules.{good-never}
 use Rattle.paths.proofs.Meaning.{reads-written, fall-is-written}

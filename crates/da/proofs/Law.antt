@@ -1,17 +1,14 @@
 -- The law of a statement: what the walk of a row says of every run of it.
 use mathlib.Core.Path.{_≡_, refl}
-use mathlib.Core.Bool.{Bool, true}
-use mathlib.Core.List.{List}
+use mathlib.Core.Bool.{true}
 use Rattle.table.specs.Fold.{Pairwise, no-pair}
 use Rattle.paths.specs.Marks.{Mark}
-use Rattle.paths.specs.Commands.{Command, skip}
 use Rattle.paths.specs.Triples.{at, never, Triple}
 use Rattle.paths.proofs.Rules.{rule-skip}
 use Rattle.expr_effect.specs.Law.{ExprLaw}
-use Rattle.stmt_paths.specs.Execution.{Execution, plain, noExecution}
-use Rattle.da.specs.declared.DaResult.{DaResult}
+use Rattle.stmt_paths.specs.Execution.{Execution, noExecution}
 use Rattle.da.specs.Outcome.{State}
-use Rattle.da.specs.Walk.{Walk, stmt, noWalk}
+use Rattle.da.specs.Walk.{Walk, noWalk}
 use Rattle.da.proofs.Known.{known}
 use Rattle.da.proofs.Sound.{Sound, sound-falls}
 

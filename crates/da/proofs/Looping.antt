@@ -5,18 +5,17 @@ use mathlib.Core.Bool.{Bool, true, false, cond, _&&_}
 use Prim.Native.Nat.{ℕ}
 use lib.Dec.{eqb}
 use Rattle.kinds.proofs.Below.{both-true}
-use Rattle.paths.specs.Marks.{Mark, full, none, _⊑_, ⊑-refl, ⊑-trans, none-⊑}
+use Rattle.paths.specs.Marks.{Mark, full, none, _⊑_, ⊑-refl, ⊑-trans}
 use Rattle.paths.specs.Commands.{out-of-loop, out-of-round, Command, seq, star}
 use Rattle.paths.specs.Triples.{at, never, Triple}
 use Rattle.paths.proofs.Rules.{less, nowhere, full-any, weaken, still, rule-seq, rule-star, rule-catch, rule-catch-never}
-use Rattle.stmt_paths.specs.Execution.{round, atLeast, loop}
+use Rattle.stmt_paths.specs.Execution.{round, loop}
 use Rattle.loops.proofs.Staying.{NeverJumps}
-use Rattle.da.specs.declared.DaOut.{DaOut}
-use Rattle.da.specs.declared.DaOut.the-variants.{Falls, Jumps}
+use Rattle.da.specs.declared.DaOut.the-variants.{Falls}
 use Rattle.da.specs.declared.DaResult.{DaResult}
-use Rattle.da.specs.declared.DaResult.the-variants.{Ok, Err}
-use Rattle.da.specs.Outcome.{State, isWritten, gains, _▷_}
-use Rattle.da.specs.Walk.{StmtRow, Walk, fallsWritten, loopBodyAssigns, rounds}
+use Rattle.da.specs.declared.DaResult.the-variants.{Ok}
+use Rattle.da.specs.Outcome.{State, gains, _▷_}
+use Rattle.da.specs.Walk.{StmtRow, fallsWritten, loopBodyAssigns}
 use Rattle.da.proofs.Known.{known, known-all, known-gained, gains-nothing}
 use Rattle.da.proofs.Sound.{Sound, sound-falls, sound-jumps, sound-stop, loose, sound-kept}
 

@@ -1,12 +1,12 @@
 -- The law of a statement, for every row. Of expressions only their law is cited.
 use mathlib.Core.Path.{_≡_, refl, sym, _∙_}
 use mathlib.Core.Bool.{Bool, true, false, cond, _&&_, not}
-use mathlib.Core.List.{List, [], _∷_}
+use mathlib.Core.List.{List, []}
 use borrow.Author.Tests.{not-true}
-use Prim.Native.Nat.{ℕ, zero, suc}
+use Prim.Native.Nat.{ℕ, zero}
 use lib.Dec.{eqb}
 use Rattle.table.specs.Rows.{Forest, nil, node}
-use Rattle.table.specs.Fold.{fold, nth, tail, Pairwise, no-pair, pair}
+use Rattle.table.specs.Fold.{fold, nth, Pairwise, no-pair, pair}
 use Rattle.table.proofs.Fold.{related-at, related-tail}
 use Rattle.kinds.specs.declared.StmtClass.{StmtClass}
 use Rattle.kinds.specs.declared.StmtClass.the-variants.{Absent, Match, Default, Decl, Blocking, Nonblocking, If, Return, Case, For, While, Repeat, Forever, Block, Fork, Systask, Task, Delayctrl, Eventctrl, Wait, Disable, Null, Unmodelled, NoStmt}
@@ -18,29 +18,28 @@ use Rattle.reads.specs.Mentions.{mentions, refers}
 use Rattle.reads.specs.NoRef.{vetting, vetted, stmtNoRef}
 use Rattle.reads.specs.Iffs.{iffQuiet}
 use Rattle.reads.proofs.Trees.{refers-node, refers-row, quiet-children, quiet-others, quiet-alone, refers-quiet}
-use Rattle.paths.specs.Marks.{Mark, full, none, _⊑_, ⊑-refl, none-⊑}
-use Rattle.paths.specs.Commands.{read, write, choice, Command, skip, emit, seq, alt}
+use Rattle.paths.specs.Marks.{Mark, full, _⊑_, ⊑-refl, none-⊑}
+use Rattle.paths.specs.Commands.{read, write, Command, skip, emit, seq}
 use Rattle.paths.specs.Triples.{at, never, Triple}
-use Rattle.paths.specs.Evaluation.{is-true, is-false, Evaluation, inOrder, noEvaluation, evaluations}
+use Rattle.paths.specs.Evaluation.{is-true, Evaluation, noEvaluation}
 use Rattle.paths.specs.Evaluates.{Evaluates, AllEvaluate}
 use Rattle.paths.proofs.Rules.{less, nowhere, weaken, rule-skip, rule-write, rule-read, rule-outside, rule-choice, rule-stops, rule-leaves, rule-again, rule-seq, rule-alt}
 use Rattle.paths.proofs.Evaluating.{in-order, evaluates-place}
 use Rattle.expr_effect.specs.Effect.{writesWhen}
-use Rattle.expr_effect.specs.Law.{ExprFacts, exprFacts, noFacts, NoneRefer, none-left, ExprLaw}
+use Rattle.expr_effect.specs.Law.{ExprFacts, noFacts, NoneRefer, none-left, ExprLaw}
 use Rattle.expr_effect.proofs.Laws.{expr-laws, no-law as no-expr-law, none-refer}
-use Rattle.stmt_paths.specs.Execution.{Execution, plain, noExecution, oneByOne, ifElse as ifRuns, caseOf as caseRuns, whileTrue as whileRuns, assignment, isPassedOver, byEffect, jump, executionOf, heldAt as heldEvaluationsAt, heldEvaluations, executionAt, executions}
-use Rattle.loops.specs.Escape.{cannotEscapes}
+use Rattle.stmt_paths.specs.Execution.{Execution, plain, noExecution, oneByOne, ifElse as ifRuns, caseOf as caseRuns, whileTrue as whileRuns, assignment, jump, executionOf, heldAt as heldEvaluationsAt, heldEvaluations, executionAt, executions}
+use Rattle.stmt_paths.proofs.Conditions.{unmet-so}
 use Rattle.loops.proofs.Staying.{NeverJumps, stay, stay-at}
-use Rattle.da.specs.declared.DaOut.{DaOut}
 use Rattle.da.specs.declared.DaOut.the-variants.{Falls, Jumps}
 use Rattle.da.specs.declared.DaResult.{DaResult}
-use Rattle.da.specs.declared.DaResult.the-variants.{Ok, Err}
+use Rattle.da.specs.declared.DaResult.the-variants.{Ok}
 use Rattle.da.specs.declared.CallEffect.the-variants.{Inert, Writes as CallWrites, Reads as CallReads, Unknown}
 use Rattle.da.specs.Outcome.{State, written, isWritten, gains, merge, _▷_, giveUp}
-use Rattle.da.specs.Walk.{DaCtx, Walk, StmtRow, exprOutWrites, once, stmt, noWalk, assigned, blocking, block, elseFrom, ifElse, arms, hasDefault, caseOf, rounds, whileTrue, callEffect, task, onlyWritten, referring, walkOf, heldAt, heldFacts, stmtRow, walkAt, walks}
+use Rattle.da.specs.Walk.{DaCtx, Walk, StmtRow, exprOutWrites, once, stmt, noWalk, assigned, blocking, block, elseFrom, ifElse, arms, hasDefault, caseOf, rounds, whileTrue, task, referring, walkOf, heldAt, heldFacts, stmtRow, walkAt, walks}
 use Rattle.da.proofs.Known.{known, known-written, known-all, known-gains, known-gained, gains-nothing}
 use Rattle.da.proofs.Sound.{Sound, sound-falls, sound-jumps, sound-stop, loose, unless, by-test, sound-then, sound-or-stop, sound-next, sound-state, sound-merge}
-use Rattle.da.proofs.Asking.{After, asked-keeps, asked-gains, unless-read, when-evaluated, refers-keeps, unless-one-read, calm-each, quiet-each}
+use Rattle.da.proofs.Asking.{once-unmet, asked-keeps, asked-gains, unless-read, when-evaluated, refers-keeps, unless-one-read, calm-each, quiet-each}
 use Rattle.da.proofs.Law.{StmtLaw, no-law}
 use Rattle.da.proofs.Looping.{rounds-so}
 use Rattle.da.proofs.Choosing.{arms-so}
@@ -116,7 +115,7 @@ if-so {c} {v} {t} {e} lc lt le a =
     when-evaluated lc a (Sound _ _) (λ g. sound-stop) (λ after. t .walk (once c true after) ▷ λ aThen. elseFrom e after (once c false after) ▷ λ aElse. Ok (merge aThen aElse))
     (λ h.
     let after = gains (exprOutWrites c) a in
-    sound-merge (sound-then (loose (h .once-so true is-true tt)) (lt .sound (once c true after))) (else-so after (once c false after) le (known-gains (writesWhen (c .effects) false) after) (h .once-so false is-false tt)))
+    sound-merge (sound-then (loose (h .once-so true is-true tt)) (lt .sound (once c true after))) (else-so after (once c false after) le (known-gains (writesWhen (c .effects) false) after) (once-unmet h)))
 
 case-so : {c : ExprFacts} {v : Evaluation} {ws : List Walk} {rs : List Execution} → ExprLaw c v → Pairwise StmtLaw ws rs → (a : State) → Sound (known a) (caseRuns v rs) (caseOf c ws a)
 case-so {c} {ws = ws} lc lw a =
@@ -151,7 +150,7 @@ module _ (ctx : DaCtx) (r : StmtRow) (cs : Forest) {es : List ExprFacts} {vs : L
   while-so i b {step} {stepRun} ls a =
       when-evaluated (expr i) a (Sound _ _) (λ g. sound-stop) (λ after. rounds r (nth true b (r .cannotEscape)) (nth noWalk b ws) step after (once (nth noFacts i es) true after))
       (λ h. rounds-so (nth noExecution b rs .run) (stepRun .run) r (nth true b (r .cannotEscape)) _ _ (known-gains _ a) (known-gains _ _)
-      (h .once-so true is-true tt) (h .evaluates .truth is-false) (stays b) (child b .sound _) (ls .sound _))
+      (h .once-so true is-true tt) (unmet-so (h .evaluates)) (stays b) (child b .sound _) (ls .sound _))
 
   row-law : (k : StmtClass) → r .noRef ≡ vetted (vetting k) (ctx .local) cs → StmtLaw (walkOf ctx k r es held ws) (executionOf (ctx .local) (ctx .marks) k (r .side) cs vs heldVs rs)
   row-law Absent n = no-law
@@ -197,7 +196,7 @@ module _ (ctx : DaCtx) (r : StmtRow) (cs : Forest) {es : List ExprFacts} {vs : L
   row-law Wait n =
       unvetted n λ a.
       unless-read (expr 0) a (Sound _ _) (λ g. sound-stop)
-      (λ q. let h = asked-keeps (expr 0) a q in sound-or-stop (sound-then (loose (h .truth is-true)) (child 1 .sound a)) (h .truth is-false))
+      (λ q. let h = asked-keeps (expr 0) a q in sound-or-stop (sound-then (loose (h .truth is-true)) (child 1 .sound a)) (unmet-so h))
 
 -- Every row
 

@@ -2,7 +2,7 @@
 -- row.
 use mathlib.Core.Path.{_≡_, refl}
 use mathlib.Core.Bool.{Bool, true, false, cond}
-use Rattle.paths.specs.Marks.{Mark, full, none, _⊑_, ⊑-refl, none-⊑}
+use Rattle.paths.specs.Marks.{Mark, none, ⊑-refl, none-⊑}
 use Rattle.paths.specs.Commands.{stops, Command, exit, seq, alt}
 use Rattle.paths.specs.Triples.{Claim, at, never, Triple}
 use Rattle.paths.proofs.Rules.{_≽_, less, nowhere, ≽-refl, weaken, keep, rule-stops, rule-seq, rule-seq-never, rule-alt}
@@ -11,7 +11,7 @@ use Rattle.da.specs.declared.DaOut.the-variants.{Falls, Jumps}
 use Rattle.da.specs.declared.DaGiveUp.{DaGiveUp}
 use Rattle.da.specs.declared.DaResult.{DaResult}
 use Rattle.da.specs.declared.DaResult.the-variants.{Ok, Err}
-use Rattle.da.specs.Outcome.{State, written, meet, state, merge, goOn, _▷_}
+use Rattle.da.specs.Outcome.{State, written, state, merge, goOn, _▷_}
 use Rattle.da.proofs.Known.{known, known-meet-first, known-meet-second}
 
 -- from a mark on: falls means that so much is written next, jumps that nothing is run next; a give-up claims nothing. Of loop

@@ -1,7 +1,7 @@
 -- The time test asked once. da_stmt asks at every statement whether time can advance in it; where it can in a statement it can in
 -- every statement around it, so asking at the outermost alone gives the same answer.
 use mathlib.Core.Path.{_≡_, refl, ap, _∙_}
-use mathlib.Core.Bool.{Bool, true, false, cond, _&&_, _||_, not, and-false}
+use mathlib.Core.Bool.{Bool, true, false, cond, _&&_, not, and-false}
 use mathlib.Core.List.{List}
 use Prim.Native.Nat.{ℕ, _<_}
 use borrow.Author.Tests.{ltb-true}

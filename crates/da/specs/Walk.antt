@@ -20,10 +20,10 @@ use Rattle.loops.specs.Time.{advancesAt, advances}
 use Rattle.da.specs.declared.DaOut.{DaOut}
 use Rattle.da.specs.declared.DaOut.the-variants.{Falls, Jumps}
 use Rattle.da.specs.declared.DaResult.{DaResult}
-use Rattle.da.specs.declared.DaResult.the-variants.{Ok, Err}
+use Rattle.da.specs.declared.DaResult.the-variants.{Ok}
 use Rattle.da.specs.declared.CallEffect.{CallEffect}
 use Rattle.da.specs.declared.CallEffect.the-variants.{Inert, Writes as CallWrites, Reads as CallReads, Unknown}
-use Rattle.da.specs.Outcome.{State, unwritten, written, isWritten, gains, state, merge, _▷_, goOn, giveUp}
+use Rattle.da.specs.Outcome.{State, written, isWritten, gains, state, merge, _▷_, goOn, giveUp}
 
 -- DaCtx, "unchanged from top to bottom", with the local. The closures of the Rust are side numbers here.
 pub record DaCtx : Type 0 where

@@ -16,12 +16,13 @@ use Rattle.reads.specs.Iffs.{every}
 use Rattle.paths.specs.Marks.{full, ⊑-refl}
 use Rattle.paths.specs.Commands.{PathEvent, Ending, falls, stops, leaves, again, NoJump, out-of-loop, out-of-round, Command, Runs}
 use Rattle.paths.specs.Triples.{Triple, at, never}
-use Rattle.paths.specs.Evaluation.{is-true, is-false, Evaluation, noEvaluation, evaluations}
-use Rattle.paths.specs.Evaluates.{Evaluates, AllEvaluate, no-more}
+use Rattle.paths.specs.Evaluation.{is-true, Evaluation}
+use Rattle.paths.specs.Evaluates.{AllEvaluate, no-more}
 use Rattle.paths.proofs.Rules.{good-never, rule-skip, rule-write, rule-read, rule-outside, rule-choice, rule-stops, rule-seq, rule-alt, rule-star, rule-catch-never}
 use Rattle.paths.proofs.Evaluating.{in-order, evaluates-place, evaluate-tail}
 use Rattle.paths.proofs.Built.{calm-all}
-use Rattle.stmt_paths.specs.Execution.{Execution, plain, noExecution, unmet, oneByOne, ifElse, allLabels, hasDefault, noArm, armsFrom, round, atLeast, loop, whileTrue, repeated, isPassedOver, byEffect, executionOf, heldAt, heldEvaluations, executionAt, executions, executed}
+use Rattle.stmt_paths.specs.Execution.{Execution, plain, noExecution, oneByOne, allLabels, hasDefault, noArm, armsFrom, loop, isPassedOver, byEffect, executionOf, heldAt, heldEvaluations, executionAt, executions, executed}
+use Rattle.stmt_paths.proofs.Conditions.{unmet-so}
 use Rattle.loops.specs.Escape.{transfers, cannotEscapeAt, cannotEscapes, cannotEscape}
 
 -- no run jumps
@@ -39,12 +40,6 @@ never-jumps t again h x = good-never t full (h .go full ⊑-refl t again x)
 pub record Stays (cannot : Bool) (e : Execution) : Type 0 where
   pub labels : AllEvaluate full (e .labels)
   pub run : cannot ≡ true → NeverJumps (e .run)
-
--- a command from its parts
-ruleset parts = (rule-skip, rule-write, rule-choice, rule-stops, rule-seq, rule-alt, rule-star, rule-catch-never)
-
-stays-none : Stays true noExecution
-stays-none = record { labels = no-more; run = λ q. rule-skip }
 
 child-stays : {bs : List Bool} {rs : List Execution} (n : ℕ) → Pairwise Stays bs rs → every bs ≡ true → NeverJumps (nth noExecution n rs .run)
 unfolding every
@@ -105,12 +100,12 @@ module _ (x : ℕ) (marks : ℕ → Bool) (s : ℕ) (cs : Forest) {es : List Eva
   class-stays Decl = unlabelled λ q. evaluates-place 0 calm .value
   class-stays Blocking = unlabelled λ q. rule-seq (evaluates-place 3 calm .value) (rule-seq (in-order calm-held) (rule-seq (evaluates-place 1 calm .value) (evaluates-place 2 calm .store)))
   class-stays Nonblocking = unlabelled λ q. evaluates-place 3 calm .value
-  class-stays If = unlabelled λ q. rule-alt (rule-seq (evaluates-place 0 calm .truth is-true) (child-stays 1 below q)) (rule-seq (evaluates-place 0 calm .truth is-false) (child-stays 2 below q))
+  class-stays If = unlabelled λ q. rule-alt (rule-seq (evaluates-place 0 calm .truth is-true) (child-stays 1 below q)) (rule-seq (unmet-so (evaluates-place 0 calm)) (child-stays 2 below q))
   class-stays Return = unlabelled λ q. true-not-false (sym q)
   class-stays Disable = unlabelled λ q. true-not-false (sym q)
   class-stays Case = unlabelled λ q. rule-seq (evaluates-place 0 calm .value) (arms-stay 0 (hasDefault (tail rs)) (related-tail below) (every-tail bs q) rule-skip (labels-stay (related-tail below)))
-  class-stays For = unlabelled λ q. rule-seq (child-stays 0 below q) (loop-stays s (evaluates-place 1 calm .truth is-true) (child-stays 3 below q) (child-stays 2 below q) (evaluates-place 1 calm .truth is-false))
-  class-stays While = unlabelled λ q. loop-stays s (evaluates-place 0 calm .truth is-true) (child-stays 1 below q) rule-skip (evaluates-place 0 calm .truth is-false)
+  class-stays For = unlabelled λ q. rule-seq (child-stays 0 below q) (loop-stays s (evaluates-place 1 calm .truth is-true) (child-stays 3 below q) (child-stays 2 below q) (unmet-so (evaluates-place 1 calm)))
+  class-stays While = unlabelled λ q. loop-stays s (evaluates-place 0 calm .truth is-true) (child-stays 1 below q) rule-skip (unmet-so (evaluates-place 0 calm))
   class-stays Repeat = unlabelled λ q. rule-seq (evaluates-place 0 calm .value) (loop-stays s (rule-choice 1) (child-stays 1 below q) rule-skip (rule-choice 0))
   class-stays Forever = unlabelled λ q. loop-stays s (rule-choice 1) (child-stays 0 below q) rule-skip rule-stops
   class-stays Block = unlabelled λ q. all-stay below q
@@ -120,7 +115,7 @@ module _ (x : ℕ) (marks : ℕ → Bool) (s : ℕ) (cs : Forest) {es : List Eva
   class-stays Task = unlabelled λ q. either-stays (isPassedOver x cs) rule-skip (effect-stays (taskEffect s))
   class-stays Delayctrl = unlabelled λ q. rule-seq (in-order calm-held) (child-stays 1 below q)
   class-stays Eventctrl = unlabelled λ q. rule-seq (evaluates-place 0 calm .value) (child-stays 1 below q)
-  class-stays Wait = unlabelled λ q. rule-alt (rule-seq (evaluates-place 0 calm .truth is-true) (child-stays 1 below q)) (rule-seq (evaluates-place 0 calm .truth is-false) rule-stops)
+  class-stays Wait = unlabelled λ q. rule-alt (rule-seq (evaluates-place 0 calm .truth is-true) (child-stays 1 below q)) (rule-seq (unmet-so (evaluates-place 0 calm)) rule-stops)
 
 held-calm : (x n : ℕ) (f : Forest) → AllEvaluate full (nth [] n (heldEvaluations x f))
 unfolding fold heldAt

@@ -1,5 +1,5 @@
 -- The rules of triples at the forms of specs/Evaluation.
-use mathlib.Core.List.{List, [], _∷_}
+use mathlib.Core.List.{List}
 use Prim.Native.Nat.{ℕ, zero, suc}
 use Rattle.table.specs.Fold.{nth, tail}
 use Rattle.paths.specs.Marks.{Mark, _⊑_, none, ⊑-refl, none-⊑}

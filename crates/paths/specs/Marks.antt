@@ -1,5 +1,4 @@
 -- What is known to be written of the local. Only this file knows what a mark is; everything else cites its laws.
-use mathlib.Core.Path.{_≡_, refl}
 use mathlib.Core.Bool.{Bool, true, false}
 use lib.Dec.{T}
 
@@ -29,14 +28,6 @@ pub record _⊑_ (a b : Mark) : Type 0 where
 
 -- the laws
 
-pub full-is-full : isFull full ≡ true
-unfolding isFull full
-full-is-full = refl
-
-pub none-is-not : isFull none ≡ false
-unfolding isFull none
-none-is-not = refl
-
 pub ⊑-refl : {a : Mark} → a ⊑ a
 ⊑-refl = record { keeps = λ h. h }
 
@@ -50,15 +41,6 @@ unfolding isFull full
 pub none-⊑ : {a : Mark} → none ⊑ a
 unfolding isFull none
 none-⊑ = record { keeps = λ h. absurd h }
-
--- what is at least full is full
-pub full-only : {a : Mark} → full ⊑ a → isFull a ≡ true
-unfolding isFull full
-full-only {a} p = go (isFull a) (p .keeps tt)
-  where
-    go : (b : Bool) → T b → b ≡ true
-    go true h = refl
-    go false h = absurd h
 
 -- nothing written is not all written
 pub none-not-full : full ⊑ none → ⊥

@@ -1,3 +1,4 @@
+pub mod Conditions
 pub mod PremiseTest
 pub mod Numbering
 pub mod Strength
