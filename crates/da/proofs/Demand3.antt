@@ -1,7 +1,8 @@
 -- Demand 3 over trees, and what the accepted answers say of a path that goes on.
 use mathlib.Core.Path.{_≡_, subst}
-use mathlib.Core.Bool.{true}
+use mathlib.Core.Bool.{Bool, true}
 use mathlib.Core.List.{List}
+use Prim.Native.Nat.{ℕ}
 use Rattle.table.specs.Rows.{Forest}
 use Rattle.table.proofs.Fold.{related-at}
 use Rattle.reads.specs.Iffs.{iffQuiet}
@@ -11,8 +12,9 @@ use Rattle.paths.specs.Triples.{at}
 use Rattle.paths.specs.Written.{Written, ReadsWritten}
 use Rattle.paths.proofs.Rules.{good-never}
 use Rattle.paths.proofs.Meaning.{reads-written, fall-is-written}
-use Rattle.stmt_paths.specs.Execution.{noExecution, executed}
-use Rattle.stmt_paths.proofs.PremiseTest.{premises-iff}
+use Rattle.stmt_paths.specs.Execution.{noExecution, executed, IsPath}
+use Rattle.stmt_paths.specs.Premises.{nowhere, firstFailing}
+use Rattle.stmt_paths.proofs.PremiseTest.{all-hold, premises-iff}
 use Rattle.da.specs.declared.DaOut.the-variants.{Falls, Jumps}
 use Rattle.da.specs.declared.DaResult.{DaResult}
 use Rattle.da.specs.declared.DaResult.the-variants.{Ok}
@@ -39,6 +41,10 @@ nothing-slips x marks sole f a q t p = accepted-reads (rw known-unwritten at (fi
 -- the demand in its own words
 pub demand-3 : Demand3
 demand-3 x marks sole f a h t p = nothing-slips x marks sole f a (premises-iff x marks f h) t p
+
+-- and where the computed test finds no row at which a premise fails
+pub demand-3-tested : (x : ℕ) (marks : ℕ → Bool) (sole : Bool) (f : Forest) → Accepted (daStmt (daCtx x marks sole) f unwritten) → firstFailing x marks f ≡ nowhere → (t : List PathEvent) → IsPath x marks f t → ReadsWritten t
+demand-3-tested x marks sole f a e t p = demand-3 x marks sole f a (all-hold x marks f e) t p
 
 written-falls : {c : Command} {t : List PathEvent} → Sound none c (Ok (Falls written)) → Runs c t falls → Written t
 written-falls {t = t} (sound-falls h) x = fall-is-written t (rw known-written at h) x
