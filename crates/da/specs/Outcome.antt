@@ -10,10 +10,11 @@ use Rattle.da.specs.declared.DaResult.the-variants.{Ok, Err}
 abbrev pub State : Type 0
 State = Bool
 
--- nothing is written, and all is
+-- nothing is written: `false`
 abbrev pub unwritten : State
 unwritten = false
 
+-- all is: `true`
 abbrev pub written : State
 written = true
 

@@ -63,21 +63,23 @@ pub record StmtRow : Type 0 where
 
 -- Expressions
 
--- expr_reads
+-- "expr_da(e, name, out_writes) == ExprDa::Reads"
 abbrev pub isReads : ExprDa → Bool
 isReads Reads = true
 isReads Writes = false
 isReads Clean = false
 
--- expr_out_writes
+-- "expr_da(e, name, out_writes) == ExprDa::Writes"
 abbrev pub isWrites : ExprDa → Bool
 isWrites Writes = true
 isWrites Reads = false
 isWrites Clean = false
 
+-- expr_reads
 abbrev pub exprReads : ExprFacts → Bool
 exprReads e = isReads (e .effects .effect)
 
+-- expr_out_writes
 abbrev pub exprOutWrites : ExprFacts → Bool
 exprOutWrites e = isWrites (e .effects .effect)
 
@@ -108,11 +110,11 @@ stmt walk = record { walk = walk; labels = []; isDefault = false; isAbsent = fal
 abbrev pub noWalk : Walk
 noWalk = record { walk = λ a. Ok (Falls a); labels = []; isDefault = false; isAbsent = true }
 
--- S::Blocking: delay, event, right side, and then the target: "A clean WHOLE-var write makes it definitely assigned", "this
--- assignment writes only PART of it"
+-- the end of S::Blocking: "A clean WHOLE-var write (`name = …`) makes it definitely assigned", "this assignment writes only PART of it"
 abbrev pub assigned : Bool → State → ℕ → ℕ → DaResult
 assigned whole a lo hi = cond whole (Ok (Falls written)) (cond (isWritten a) (Ok (Falls a)) (giveUp 4 lo hi))
 
+-- S::Blocking: delay, event, right side, target; "Claimed only when the LVALUE cannot itself reference `name`"
 abbrev pub blocking : StmtRow → List ExprFacts → ExprFacts → ExprFacts → ExprFacts → State → DaResult
 blocking r delays event target right a =
     unlessOneRead delays a
@@ -127,10 +129,11 @@ nonblocking ctx r right a =
     (unlessRead right a
     (Ok (Falls (gains (exprOutWrites right) a))))
 
--- S::If: "The join state is `after`, NOT `in_else`", where the else is absent
+-- the else of S::If: "The join state is `after`, NOT `in_else`", where it is absent
 abbrev pub elseFrom : Walk → State → State → DaResult
 elseFrom e after inElse = cond (e .isAbsent) (Ok (Falls after)) (e .walk inElse)
 
+-- S::If: "a branch is entered only for a particular VALUE of the cond"
 abbrev pub ifElse : ExprFacts → Walk → Walk → State → DaResult
 ifElse c t e a =
     evaluated c a λ after.
@@ -143,16 +146,17 @@ abbrev pub block : List Walk → State → DaResult
 block [] a = Ok (Falls a)
 block (w ∷ ws) a = w .walk a ▷ goOn (block ws)
 
--- S::Case: the arms one after the other, each from `after`; `all` is what the arms before came to
+-- the arms of S::Case one after the other, each from `after`; `all` is what the arms before came to
 abbrev pub arms : List Walk → State → DaOut → DaResult
 arms [] after all = Ok all
 arms (w ∷ ws) after all = unlessOneRead (w .labels) after (w .walk after ▷ λ arm. arms ws after (merge all arm))
 
+-- has_default
 abbrev pub hasDefault : List Walk → Bool
 hasDefault [] = false
 hasDefault (w ∷ ws) = w .isDefault || hasDefault ws
 
--- "Some(m) if has_default && !after => Ok(m), _ => Ok(Falls(after))"; where there are no arms there is no default
+-- S::Case: "Some(m) if has_default && !after => Ok(m), _ => Ok(DaOut::Falls(after))"; where there are no arms there is no default
 abbrev pub caseOf : ExprFacts → List Walk → State → DaResult
 caseOf c ws a =
     evaluated c a λ after.
@@ -164,11 +168,11 @@ abbrev pub fallsWritten : DaOut → Bool
 fallsWritten (Falls a) = isWritten a
 fallsWritten Jumps = false
 
--- loop_body_assigns; "at least one round always runs" is side 1
+-- loop_body_assigns; loop_once is side 1, "1 if at least one round always runs"
 abbrev pub loopBodyAssigns : StmtRow → Bool → DaOut → Bool
 loopBodyAssigns r cannotEscape bodyOut = fallsWritten bodyOut && (cannotEscape && eqb (r .side) 1)
 
--- the body and the step, both from `inBody`; "A loop always FALLS THROUGH for this analysis"
+-- every loop's body and step, both from `inBody`, in this order; "A loop always FALLS THROUGH for this analysis"
 abbrev pub rounds : StmtRow → Bool → Walk → Walk → State → State → DaResult
 rounds r cannotEscape body step after inBody =
     body .walk inBody ▷ λ bodyOut.
@@ -218,28 +222,39 @@ referring ctx r arm = stmt (unlessTime ctx r λ a. cond (r .noRef) (Ok (Falls a)
 -- da_stmt: the tests, then the match on the statement, from the row, the facts of its children, those of what each child holds,
 -- and the walks of the children. Arms of a case, declarations and absent statements are no statements, and are not tested.
 abbrev pub walkOf : DaCtx → StmtClass → StmtRow → List ExprFacts → List (List ExprFacts) → List Walk → Walk
+-- ast::CaseItem::Match, ast::CaseItem::Default
 walkOf ctx Match r es held ws = record { walk = nth noWalk 0 ws .walk; labels = tail es; isDefault = false; isAbsent = false }
 walkOf ctx Default r es held ws = record { walk = nth noWalk 0 ws .walk; labels = []; isDefault = true; isAbsent = false }
+-- the initialisers of S::Block: "A nested block-local decl whose initializer reads `name` observes the entry value too"
 walkOf ctx Decl r es held ws = stmt λ a. unlessRead (nth noFacts 0 es) a (Ok (Falls a))
+-- "if let S::Disable { target, .. } = st", before "no reference"
 walkOf ctx Disable r es held ws = stmt (unlessTime ctx r λ a. cond (r .isJump) (Ok Jumps) (Ok (Falls a)))
+-- S::Blocking, S::NonBlocking
 walkOf ctx Blocking r es held ws = referring ctx r (blocking r (nth [] 0 held) (nth noFacts 1 es) (nth noFacts 2 es) (nth noFacts 3 es))
 walkOf ctx Nonblocking r es held ws = referring ctx r (nonblocking ctx r (nth noFacts 3 es))
+-- S::If, S::Block, S::Fork, S::Case
 walkOf ctx If r es held ws = referring ctx r (ifElse (nth noFacts 0 es) (nth noWalk 1 ws) (nth noWalk 2 ws))
 walkOf ctx Block r es held ws = referring ctx r (block ws)
 walkOf ctx Fork r es held ws = referring ctx r (onlyWritten 5 r)
 walkOf ctx Case r es held ws = referring ctx r (caseOf (nth noFacts 0 es) (tail ws))
+-- S::For, S::While, S::Repeat, S::Forever: "Conservatively falls through even though a `forever` without a `break` never does"
 walkOf ctx For r es held ws = referring ctx r (forFrom r (nth true 3 (r .cannotEscape)) (nth noWalk 0 ws) (nth noFacts 1 es) (nth noWalk 2 ws) (nth noWalk 3 ws))
 walkOf ctx While r es held ws = referring ctx r (whileTrue r (nth true 1 (r .cannotEscape)) (nth noFacts 0 es) (nth noWalk 1 ws) noWalk)
 walkOf ctx Repeat r es held ws = referring ctx r (repeated r (nth true 1 (r .cannotEscape)) (nth noFacts 0 es) (nth noWalk 1 ws))
 walkOf ctx Forever r es held ws = referring ctx r λ a. rounds r (nth true 0 (r .cannotEscape)) (nth noWalk 0 ws) noWalk a a
+-- S::Return: "a `return` leaves the subroutine"
 walkOf ctx Return r es held ws = referring ctx r λ a. unlessRead (nth noFacts 0 es) a (Ok Jumps)
+-- S::UserTaskCall
 walkOf ctx Task r es held ws = referring ctx r (task (callEffect (taskEffect (r .side))) (r .lo) (r .hi))
+-- S::DelayCtrl, S::EventCtrl, S::Wait: "the body then runs with the same state", and "No WRITE is claimed from them"
 walkOf ctx Delayctrl r es held ws = referring ctx r λ a. unlessOneRead (nth [] 0 held) a (nth noWalk 1 ws .walk a)
 walkOf ctx Eventctrl r es held ws = referring ctx r (eventControl r (nth noFacts 0 es) (nth noWalk 1 ws))
 walkOf ctx Wait r es held ws = referring ctx r λ a. unlessRead (nth noFacts 0 es) a (nth noWalk 1 ws .walk a)
+-- `_`
 walkOf ctx Systask r es held ws = referring ctx r (onlyWritten 9 r)
 walkOf ctx Null r es held ws = referring ctx r (onlyWritten 9 r)
 walkOf ctx Unmodelled r es held ws = referring ctx r (onlyWritten 9 r)
+-- no statement
 walkOf ctx Absent r es held ws = noWalk
 walkOf ctx NoStmt r es held ws = noWalk
 
@@ -251,6 +266,7 @@ heldAt x k s lo hi cs held = exprFacts x cs
 abbrev pub heldFacts : ℕ → Forest → List (List ExprFacts)
 heldFacts x = fold (heldAt x)
 
+-- of a row
 abbrev pub stmtRow : DaCtx → ℕ → ℕ → ℕ → ℕ → Forest → StmtRow
 stmtRow ctx k s lo hi cs = record {
   side = s;

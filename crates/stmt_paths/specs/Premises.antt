@@ -65,17 +65,19 @@ inInitOrStep (loop-body ∷ above) = inInitOrStep above
 inInitOrStep (init-or-step ∷ above) = true
 inInitOrStep (elsewhere ∷ above) = inInitOrStep above
 
--- whether each of these siblings refers, "to be or hold"
+-- "to refer is to be or hold": whether a row refers
 unfoldable pub refersAt : ℕ → Alg Bool
 refersAt x k s lo hi cs bs = refers Held x (node k s lo hi cs nil)
 
+-- whether each of these siblings does
 abbrev pub refersEach : ℕ → Forest → List Bool
 refersEach x = fold (refersAt x)
 
--- whether each of these siblings is "the plain local": "an lident whose path is one segment, the local"
+-- "The plain local is an lident whose path is one segment, the local": whether a row is
 unfoldable pub plainAt : ℕ → Alg Bool
 plainAt x k s lo hi cs bs = eqb k (numbered "lident") && isLocal x cs
 
+-- whether each of these siblings is
 abbrev pub plainEach : ℕ → Forest → List Bool
 plainEach x = fold (plainAt x)
 
