@@ -15,12 +15,13 @@ use Rattle.paths.proofs.Meaning.{reads-written, fall-is-written}
 use Rattle.stmt_paths.specs.Execution.{noExecution, executed, IsPath}
 use Rattle.stmt_paths.specs.Premises.{nowhere, firstFailing}
 use Rattle.stmt_paths.proofs.PremiseTest.{all-hold, premises-iff}
+use Rattle.da.specs.declared.DaOut.{DaOut}
 use Rattle.da.specs.declared.DaOut.the-variants.{Falls, Jumps}
 use Rattle.da.specs.declared.DaResult.{DaResult}
 use Rattle.da.specs.declared.DaResult.the-variants.{Ok}
 use Rattle.da.specs.Outcome.{State, unwritten, written, Accepted}
 use Rattle.da.specs.Walk.{DaCtx, daCtx, noWalk, daStmt}
-use Rattle.da.specs.Demand3.{Demand3, NothingSlips, FallsWritten, NeverFalls}
+use Rattle.da.specs.Demand3.{Demand3, Demand3FromIff, FallsWritten, NeverFalls}
 use Rattle.da.proofs.Known.{known, known-unwritten, known-written}
 use Rattle.da.proofs.Sound.{Sound, sound-falls, sound-jumps, sound-stop}
 use Rattle.da.proofs.Law.{no-law}
@@ -30,17 +31,21 @@ use Rattle.da.proofs.Rows.{stmt-laws}
 first-sound : (ctx : DaCtx) (f : Forest) (start : State) → iffQuiet (ctx .local) f ≡ true → Sound (known start) (executed (ctx .local) (ctx .marks) f) (daStmt ctx f start)
 first-sound ctx f start q = related-at noWalk noExecution 0 no-law (stmt-laws ctx f q) .sound start
 
+-- "Accepted means falls or jumps", whatever is written
+pub falls-or-jumps : (out : DaOut) → Accepted (Ok out)
+falls-or-jumps out = tt
+
 accepted-reads : {c : Command} {r : DaResult} {t : List PathEvent} {o : Ending} → Sound none c r → Accepted r → Runs c t o → ReadsWritten t
 accepted-reads (sound-falls h) a x = reads-written h x
 accepted-reads (sound-jumps h) a x = reads-written h x
 accepted-reads sound-stop a x = absurd a
 
-pub nothing-slips : NothingSlips
-nothing-slips x marks sole f a q t p = accepted-reads (rw known-unwritten at (first-sound (daCtx x marks sole) f unwritten q)) a (p .runs)
+pub demand-3-from-iff : Demand3FromIff
+demand-3-from-iff x marks sole f a q t p = accepted-reads (rw known-unwritten at (first-sound (daCtx x marks sole) f unwritten q)) a (p .runs)
 
 -- the demand in its own words
 pub demand-3 : Demand3
-demand-3 x marks sole f a h t p = nothing-slips x marks sole f a (premises-iff x marks f h) t p
+demand-3 x marks sole f a h t p = demand-3-from-iff x marks sole f a (premises-iff x marks f h) t p
 
 -- and where the computed test finds no row at which a premise fails
 pub demand-3-tested : (x : ℕ) (marks : ℕ → Bool) (sole : Bool) (f : Forest) → Accepted (daStmt (daCtx x marks sole) f unwritten) → firstFailing x marks f ≡ nowhere → (t : List PathEvent) → IsPath x marks f t → ReadsWritten t

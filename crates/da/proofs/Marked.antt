@@ -6,9 +6,10 @@ use mathlib.Core.List.{List, [], _∷_, _++_, map}
 use Prim.Native.Nat.{ℕ, zero, suc, _+_}
 use Rattle.table.specs.Rows.{Forest, nil, node}
 use Rattle.table.specs.Fold.{fold}
-use Rattle.kinds.specs.Kinds.{kinds}
+use Rattle.kinds.specs.Kinds.{kinds, entry, classNumber, ofClass, isKind, inClass, takes, once, many, fits}
 use Rattle.kinds.specs.Words.{same, placeFrom, kindOf}
 use Rattle.kinds.specs.Named.{kindNumber, numbered, exprClass, stmtWords, stmtClassIn, stmtClass, taskEffect}
+use Rattle.checks.specs.Checks.{kindAlone}
 use Rattle.reads.specs.PathRows.{isNamed, begins, count, segments, isLocal, isMarked, isLoopJump}
 use Rattle.reads.specs.Mentions.{inRowOrder, passedOver, seenBelow, seenAt, seen, some, refers}
 use Rattle.reads.specs.NoRef.{stmtNoRef}
@@ -17,15 +18,16 @@ use Rattle.paths.proofs.Strength.{Row, row, x, y, w, ident, lident, callRow, X,
 use Rattle.stmt_paths.proofs.Strength.{b, j, marks, timed, assign, assignLater, delay, on, intra, toX, toY, writes, reads, block, decl, ifElse, returns, caseOf, arm, default, for, while, repeat, forever, disable, task, delayed, awaits, wait, null}
 use Rattle.expr_effect.specs.Effect.{unaryForm, binaryForm, callForm, exprEffectAt}
 use Rattle.expr_effect.specs.Law.{factsAt}
+use Rattle.loops.specs.Fitting.{fitHere, fitAt, fitting}
 use Rattle.loops.specs.Escape.{cannotEscapeAt}
 use Rattle.loops.specs.Time.{waitingWords, isOneOf, letsTimePass, advancesAt}
 use Rattle.da.specs.declared.DaOut.the-variants.{Falls, Jumps}
 use Rattle.da.specs.declared.DaResult.{DaResult}
-use Rattle.da.specs.declared.DaResult.the-variants.{Ok}
-use Rattle.da.specs.Outcome.{State, unwritten, written, giveUp}
+use Rattle.da.specs.declared.DaResult.the-variants.{Ok, Err}
+use Rattle.da.specs.Outcome.{State, unwritten, written}
 use Rattle.da.specs.Walk.{daCtx, heldAt, walkAt, daStmt}
 
--- Rows, beside those of the paths' facts: `c`, `y=1;`, an if without else, and what stands in one line of a statement here
+-- Rows that the facts about paths have no name for: `c`, `y=1;`, an if without else, and others
 
 abbrev C : Row
 C = ident (b ∷ [])
@@ -107,7 +109,7 @@ abbrev jumps : DaResult
 jumps = Ok Jumps
 
 abbrev gives : ℕ → ℕ → DaResult
-gives reason n = giveUp reason n (n + 100)
+gives reason n = Err (record { reason = reason; lo = n; hi = n + 100 })
 
 -- the worked statements, by their numbers
 abbrev worked : List Case
@@ -153,6 +155,10 @@ traps =
     plainly (caseOf C (match return (lit ∷ []) ∷ default setY ∷ [])) falls0 ∷
     plainly (caseOf C (match return (lit ∷ []) ∷ default writes ∷ [])) falls1 ∷
     plainly (caseOf C (match return (lit ∷ []) ∷ default return ∷ [])) jumps ∷
+    -- an arm that falls unwritten counts wherever it stands, and so does a default
+    plainly (caseOf C (match setY (lit ∷ []) ∷ default writes ∷ [])) falls0 ∷
+    plainly (caseOf C (default writes ∷ match setY (lit ∷ []) ∷ [])) falls0 ∷
+    plainly (caseOf C (default writes ∷ match writes (lit ∷ []) ∷ [])) falls1 ∷
     -- "A case with no default taken as written"
     plainly (caseOf C (match writes (lit ∷ []) ∷ match writes (lit ∷ []) ∷ [])) falls0 ∷
     plainly (caseOf C (match return (lit ∷ []) ∷ [])) falls0 ∷
@@ -193,6 +199,9 @@ assignments =
     plainly (timed absent (upon C X) toX lit) falls1 ∷
     plainly (timed absent (upon C X) toY lit) falls0 ∷
     start1 (timed (delay (X ∷ [])) (upon X absent) toX X) falls1 ∷
+    -- "which can only add a give-up, as in `y = #(x) w();`"; of several values that read, the first
+    plainly (timed (delay (X ∷ [])) absent toY (callRow 1 (w ∷ []) [])) (gives 2 2) ∷
+    plainly (timed (delay (X ∷ X ∷ [])) absent toX lit) (gives 2 2) ∷
     []
 
 -- S::NonBlocking
@@ -207,6 +216,8 @@ nonblockings =
     sole0 (assignLater toX lit) (gives 1 0) ∷
     from written false (assignLater toX lit) (gives 1 0) ∷
     sole0 (assignLater toY lit) falls0 ∷
+    -- before its right side is looked at
+    sole0 (assignLater toY X) (gives 1 0) ∷
     []
 
 -- conditions, and what is known in the arms
@@ -217,6 +228,7 @@ conditions =
     plainly (if W reads) falls1 ∷
     plainly (ifElse (or! C W) null reads) falls0 ∷
     plainly (ifElse C writes reads) (gives 2 17) ∷
+    plainly (ifElse C reads reads) (gives 2 10) ∷
     plainly (caseOf X (default writes ∷ [])) (gives 2 1) ∷
     plainly (caseOf W (match reads (X ∷ []) ∷ [])) falls1 ∷
     -- the scrutinee writes: falls 1 even if every arm returns
@@ -225,6 +237,9 @@ conditions =
     plainly (caseOf C (match writes (lit ∷ X ∷ []) ∷ [])) (gives 2 13) ∷
     plainly (caseOf C (match reads (X ∷ []) ∷ [])) (gives 2 14) ∷
     plainly (caseOf C (match writes (W ∷ []) ∷ default reads ∷ [])) (gives 2 25) ∷
+    plainly (caseOf C (match writes (X ∷ X ∷ []) ∷ [])) (gives 2 12) ∷
+    -- an arm comes before the labels of the next
+    plainly (caseOf C (match reads (lit ∷ []) ∷ match writes (X ∷ []) ∷ [])) (gives 2 11) ∷
     []
 
 -- the four loops around a body, with this side
@@ -241,7 +256,7 @@ bodies =
     ++ each (loops 1 (block (if C break ∷ writes ∷ []))) falls0 plainly
     ++ each (loops 1 (block (if C return ∷ writes ∷ []))) falls0 plainly
     ++ each (loops 1 (block (disable (b ∷ []) ∷ writes ∷ []))) falls0 plainly
-    -- "Tested as `Falls(true)`, NOT `.state()`"; "A loop always FALLS THROUGH"
+    -- "A loop always FALLS THROUGH for this analysis", and a body that jumps writes nothing past it
     ++ each (loops 1 return) falls0 plainly
     ++ each (loops 0 return) falls0 plainly
     ++ each (loops 1 return) falls1 start1
@@ -258,6 +273,10 @@ rounds =
     plainly (repeat 0 (and! C W) reads) (gives 2 17) ∷
     plainly (for 0 writes C reads reads) falls1 ∷
     plainly (for 0 reads C null writes) (gives 2 7) ∷
+    -- the body comes before the step, which stands before it in row order
+    plainly (for 0 null C reads reads) (gives 2 20) ∷
+    -- a step may transfer control: `stmt_cannot_escape(body)` asks of the body alone
+    plainly (for 1 null C return writes) falls1 ∷
     -- an init that jumps counts as written for the rest
     plainly (for 0 return X reads reads) falls1 ∷
     []
@@ -328,6 +347,10 @@ timings =
     plainly (wait X writes) (gives 2 1) ∷
     plainly (wait (plus C X) writes) (gives 2 1) ∷
     plainly (wait W reads) (gives 2 13) ∷
+    -- a body that jumps
+    plainly (delayed (delay (lit ∷ [])) return) jumps ∷
+    plainly (awaits (at C absent) return) jumps ∷
+    plainly (wait C return) jumps ∷
     []
 
 -- "the unmodelled forms: randstmt, trigger, waitfork, concurrent through cover, and the statement error"
@@ -356,6 +379,7 @@ times =
     sole0 (ifElse C writes (awaits (at C absent) writes)) (gives 1 0) ∷
     sole0 (caseOf C (match (task (w ∷ []) [] 4) (lit ∷ []) ∷ [])) (gives 1 0) ∷
     sole0 (row "waitfork" 0 []) (gives 1 0) ∷
+    sole0 (fork (delayed (delay (lit ∷ [])) setY ∷ [])) (gives 1 0) ∷
     sole0 break jumps ∷
     from written false (block (delayed (delay (lit ∷ [])) setY ∷ [])) (gives 1 0) ∷
     []
@@ -367,3 +391,8 @@ cases = worked ++ traps ++ assignments ++ nonblockings ++ conditions ++ bodies +
 pub marked : map answer cases ≡ map (λ t. t .expected) cases
 unfolding size spread fold heldAt walkAt factsAt exprEffectAt unaryForm binaryForm callForm cannotEscapeAt waitingWords isOneOf letsTimePass advancesAt stmtClass stmtClassIn stmtWords exprClass taskEffect numbered kindNumber kindOf placeFrom kinds same isNamed begins count segments isLocal isMarked isLoopJump inRowOrder passedOver seenBelow seenAt seen some refers stmtNoRef every
 marked = refl
+
+-- "9: children that don't fit the kind": these statements' do, at every row
+pub all-fit : map (λ t. fitting (t .what nil)) cases ≡ map (λ t. true) cases
+unfolding fold fitHere fitAt fitting every kindAlone isKind entry inClass ofClass classNumber takes once many fits numbered kindNumber kindOf placeFrom kinds same
+all-fit = refl

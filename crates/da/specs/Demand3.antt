@@ -28,8 +28,8 @@ Demand3 =
     → ReadsWritten t
 
 -- the same from the one premise that it needs: no iff refers to the local
-abbrev pub NothingSlips : Type 0
-NothingSlips =
+abbrev pub Demand3FromIff : Type 0
+Demand3FromIff =
     (x : ℕ) (marks : ℕ → Bool) (sole : Bool) (f : Forest)
     → Accepted (daStmt (daCtx x marks sole) f unwritten)
     → iffQuiet x f ≡ true

@@ -35,7 +35,7 @@ abbrev pub state : DaOut → State
 state (Falls a) = a
 state Jumps = written
 
--- DaOut::merge: "A non-falling arm drops out; if BOTH jump, the whole construct jumps"
+-- DaOut::merge: "A non-falling arm drops out (it never reaches the join); if BOTH jump, ... the whole construct jumps"
 abbrev pub merge : DaOut → DaOut → DaOut
 merge Jumps other = other
 merge (Falls a) Jumps = Falls a

@@ -1,5 +1,5 @@
 -- da_stmt: da/mod.rs and loop_body_assigns of da/loops.rs, followed line by line, a row at a time. Definitions only. The nine reasons
--- have document 01's numbers: 2 with the span of an expression, the others with that of the statement.
+-- have document 01's numbers, and "2 carries the expression's span, the others the statement's".
 use mathlib.Core.List.{List, [], _∷_}
 use mathlib.Core.Bool.{Bool, true, false, cond, _&&_, _||_, not}
 use Prim.Native.Nat.{ℕ}

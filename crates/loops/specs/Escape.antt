@@ -86,7 +86,7 @@ escapeArm Nonblocking bs = true
 escapeArm Systask bs = true
 escapeArm Task bs = true
 escapeArm Null bs = true
--- `opt` of none; the recursion does not come to the other two
+-- `opt` of none; a block's declarations, which the Rust passes over; the recursion does not come to `NoStmt`
 escapeArm Absent bs = true
 escapeArm Decl bs = true
 escapeArm NoStmt bs = true

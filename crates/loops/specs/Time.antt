@@ -80,7 +80,7 @@ timeArm Return k s there bs = false
 timeArm Disable k s there bs = false
 timeArm Systask k s there bs = false
 timeArm Null k s there bs = false
--- `opt` of none; the recursion does not come to the other two
+-- `opt` of none; a block's declarations, which the Rust passes over; the recursion does not come to `NoStmt`
 timeArm Absent k s there bs = false
 timeArm Decl k s there bs = false
 timeArm NoStmt k s there bs = false

@@ -1,5 +1,5 @@
 -- What a triple says of a run: a read, and what counts as one, has a whole write before it.
-use mathlib.Core.Path.{subst}
+use mathlib.Core.Path.{_≡_, refl, ap, subst}
 use mathlib.Core.List.{List, [], _∷_, _++_, append-nil}
 use Rattle.paths.specs.Marks.{Mark, full, none, _⊑_, ⊑-refl, none-not-full}
 use Rattle.paths.specs.Commands.{PathEvent, read, write, outside, choice, Ending, falls, Command, Runs}
@@ -43,3 +43,28 @@ is-read (choice m) r n = r
 -- so of every run from nothing written on
 pub reads-written : {c : Command} {next jump : Claim} {t : List PathEvent} {o : Ending} → Triple none c next jump → Runs c t o → ReadsWritten t
 reads-written {c} {o = o} h x = record { before = λ s u e q r. read-is-written s u e o h (is-read e r) (subst (λ t. Runs c t o) q x) }
+
+-- What the claim says of a list in terms of its events alone, so that neither "a read" nor "a whole write before it" says less
+
+pub record HoldsWrite (t : List PathEvent) : Type 0 where
+  pub before : List PathEvent
+  pub after : List PathEvent
+  pub is : t ≡ before ++ (write ∷ after)
+
+one-more : (e : PathEvent) {t : List PathEvent} → HoldsWrite t → HoldsWrite (e ∷ t)
+one-more e h = record { before = e ∷ h .before; after = h .after; is = ap (λ t. e ∷ t) (h .is) }
+
+pub holds-write : (t : List PathEvent) → Written t → HoldsWrite t
+holds-write [] h = absurd h
+holds-write (read ∷ t) h = one-more read (holds-write t h)
+holds-write (outside ∷ t) h = one-more outside (holds-write t h)
+holds-write (write ∷ t) h = record { before = []; after = t; is = refl }
+holds-write (choice n ∷ t) h = one-more (choice n) (holds-write t h)
+
+-- wherever a read stands in it, a write stands before
+pub read-after-write : (s u : List PathEvent) → ReadsWritten (s ++ (read ∷ u)) → HoldsWrite s
+read-after-write s u h = holds-write s (h .before s u read refl tt)
+
+-- so it does before a fork or a form that is not modelled
+pub outside-after-write : (s u : List PathEvent) → ReadsWritten (s ++ (outside ∷ u)) → HoldsWrite s
+outside-after-write s u h = holds-write s (h .before s u outside refl tt)

@@ -18,6 +18,6 @@ IsRead outside = Unit
 IsRead write = ⊥
 IsRead (choice n) = ⊥
 
--- wherever a read stands in the list, what stands before it holds a write
+-- wherever a read stands in the list, what stands before it holds a write: "for demand 3 the local is unwritten at its start"
 pub record ReadsWritten (t : List PathEvent) : Type 0 where
   pub before : (s u : List PathEvent) (e : PathEvent) → t ≡ s ++ (e ∷ u) → IsRead e → Written s

@@ -16,9 +16,9 @@ use Rattle.reads.specs.PathRows.{isNamed, begins, count, segments, isLocal, isM
 use Rattle.reads.specs.Mentions.{inRowOrder, seenBelow, seenAt, seen, some, refers}
 use Rattle.paths.specs.Commands.{PathEvent, read, write, outside, choice, falls, stops, leaves, again, Command}
 use Rattle.paths.specs.Evaluation.{evaluationAt}
-use Rattle.paths.proofs.Listed.{Run, IsRun, Each, followed, eachFollowed, rounds, listed, listed-run}
+use Rattle.paths.proofs.Listed.{Run, IsRun, Each, followed, eachFollowed, rounds, listed, each-imply, listed-run}
 use Rattle.paths.proofs.Strength.{Row, row, x, y, w, pathOf, lident, X, Y, W, lit, opaque, absent, and!, plus, event, ident, Extent, whole, up-to, shortened, shortened-run}
-use Rattle.stmt_paths.specs.Execution.{heldAt, executionAt, executed}
+use Rattle.stmt_paths.specs.Execution.{heldAt, executionAt, executed, IsPath}
 use Rattle.stmt_paths.specs.Premises.{placeOf, placedBelow, placedAt, placedTogether, placedRows, refersAt, plainAt, rowHolds, FirstFailing, nowhere, at-row, firstFalse, firstFailing, rowOf, RowPremises, Premises}
 use Rattle.stmt_paths.proofs.PremiseTest.{all-hold, fails-at}
 
@@ -430,7 +430,7 @@ cases =
     ++ forEach others ((b ∷ []) ∷ (j ∷ b ∷ []) ∷ (j ∷ j ∷ []) ∷ [] ∷ [])
     ++ forEach tasks effects ++ controls ++ sequences ++ forEach unmodelled unmodelledKinds ++ cutShort
 
--- The joint fact: what is listed of each statement is what is expected of it, no more, no less, and in this order.
+-- The joint fact: what the listing gives of each statement is what is expected of it, in this order.
 pub joint : map shown cases ≡ map (λ c. c .expected) cases
 unfolding fold evaluationAt heldAt executionAt exprClass stmtClass stmtClassIn stmtWords taskEffect numbered kindNumber kindOf placeFrom kinds same isNamed begins count segments isLocal isMarked isLoopJump inRowOrder seenBelow seenAt seen some refers listed eachFollowed followed rounds
 joint = refl
@@ -450,6 +450,17 @@ expected-run (c ∷ cs) e = (
 
 pub must-run : Each MustRun cases
 must-run = expected-run cases joint
+
+-- and is a path, however it ends
+
+abbrev pub MustBePaths : Case → Type 0
+MustBePaths c = Each (λ r. IsPath x marks (c .what nil) (r .0)) (c .expected)
+
+runs-are-paths : (c : Case) → MustRun c → MustBePaths c
+runs-are-paths c = each-imply (IsRun (commandOf c)) (λ r. IsPath x marks (c .what nil) (r .0)) (λ r h. record { ending = r .1; runs = h }) (c .expected)
+
+pub must-be-paths : Each MustBePaths cases
+must-be-paths = each-imply MustRun MustBePaths runs-are-paths cases must-run
 
 -- The premises: the first row at which one fails
 

@@ -43,12 +43,12 @@ oneByOne (r ∷ rs) = seq (r .run) (oneByOne rs)
 abbrev pub ifElse : Evaluation → Execution → Execution → Command
 ifElse c t e = alt (seq (c .truth is-true) (t .run)) (seq (unmet c) (e .run))
 
--- the labels of all arms, in row order
+-- the labels "in row order", "all of them for a default or no arm"
 abbrev pub allLabels : List Execution → Command
 allLabels [] = skip
 allLabels (r ∷ rs) = seq (inOrder (r .labels)) (allLabels rs)
 
--- one of the arms is a default
+-- "no arm only where no default stands": one of the arms is a default
 abbrev pub hasDefault : List Execution → Bool
 hasDefault [] = false
 hasDefault (r ∷ rs) = r .isDefault || hasDefault rs
@@ -89,11 +89,11 @@ loop s head body step end = catch out-of-loop (atLeast s (round head body step) 
 abbrev pub whileTrue : ℕ → Evaluation → Command → Command → Command
 whileTrue s c body step = loop s (c .truth is-true) body step (unmet c)
 
--- "repeat and forever give 1 before a round, or repeat 0 to run no more" (12.7.2, 12.7.6)
+-- "repeat and forever give 1 before a round, or repeat 0 to run no more"; "forever ends only by jump" (12.7.2, 12.7.6)
 abbrev pub repeated : ℕ → Command → Command → Command
 repeated s body end = loop s (emit (choice 1)) body skip end
 
--- "leaves the nearest loop or only its round, either one freely" (12.8); any other disable falls through, outside the premises
+-- "leaves the nearest loop or only its round, either one freely, since the mark doesn't tell which" (12.8); any other disable falls through, outside the premises
 -- (9.6.2)
 abbrev pub jump : Bool → Command
 jump true = alt (seq (emit (choice 0)) (exit leaves)) (seq (emit (choice 1)) (exit again))

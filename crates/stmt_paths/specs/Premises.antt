@@ -86,7 +86,7 @@ plainEach x = fold (plainAt x)
 abbrev pub nonblockingHolds : List Bool → List Bool → Bool
 nonblockingHolds refer plain = not (nth false 0 refer) && (not (nth false 1 refer) && (nth false 2 plain || not (nth false 2 refer)))
 
--- the test of one row, by the word of its kind
+-- the test of one row, by the word of its kind; "an inner declaration is a decl"
 unfoldable pub rowHolds : ℕ → (ℕ → Bool) → PlacedRow → Bool
 rowHolds x marks r =
     cond (eqb (r .kind) (numbered "disable")) (isLoopJump marks (r .children) && (inLoopBody (r .above) && not (inInitOrStep (r .above))))
