@@ -1,11 +1,11 @@
 -- The complete runs of a command, listed: what a theorem about all runs cannot notice is missing, a list of runs shows.
-use mathlib.Core.Path.{_≡_, refl, sym, subst}
+use mathlib.Core.Path.{_≡_, sym, ap, subst}
 use mathlib.Core.Bool.{Bool, true, false, _&&_}
 use mathlib.Core.List.{List, [], _∷_, _++_, map}
-use native.Mathlib.Omega.{arith}
+use Rattle.table.specs.Fold.{nth, tail}
 use Rattle.kinds.proofs.Below.{both-true, true-not-false}
 use Prim.Native.Nat.{ℕ, zero, suc}
-use Rattle.paths.specs.Commands.{PathEvent, Ending, falls, stops, leaves, again, Command, skip, emit, exit, seq, alt, star, catch, caught, Elsewhere, Runs, run-stop, run-skip, run-emit, run-emit-stop, run-exit, run-seq, run-off, run-left, run-right, run-none, run-more, run-catch}
+use Rattle.paths.specs.Commands.{PathEvent, Ending, falls, stops, leaves, again, Jump, out-of-loop, out-of-round, Command, skip, emit, exit, seq, alt, star, catch, caught, Elsewhere, Runs, run-stop, run-skip, run-emit, run-emit-stop, run-exit, run-seq, run-off, run-left, run-right, run-none, run-more, run-catch}
 
 -- what happens, and how it ends
 abbrev pub Run : Type 0
@@ -60,6 +60,11 @@ module _ {A : Type 0} where
   each-map P Q g f [] h = tt
   each-map P Q g f (x ∷ xs) h = (f x (h .0), each-map P Q g f xs (h .1))
 
+-- what is so of each list that is shown is so of each that is expected, where the two are the same
+pub each-expected : {A : Type 0} (P : A → List Run → Type 0) (shown expected : A → List Run) → ((a : A) → P a (shown a)) → (cs : List A) → map shown cs ≡ map expected cs → Each (λ c. P c (expected c)) cs
+each-expected P shown expected h [] e = tt
+each-expected P shown expected h (c ∷ cs) e = (subst (P c) (ap (nth [] 0) e) (h c), each-expected P shown expected h cs (ap tail e))
+
 module _ (c d : Command) (next : List Run) (k : Each (IsRun d) next) where
   followed-run : (s : List PathEvent) (o : Ending) → Runs c s o → Each (IsRun (seq c d)) (followed s o next)
   unfolding followed
@@ -98,15 +103,22 @@ listed-run n (catch j c) = each-map (IsRun c) (IsRun (catch j c)) (λ r. (r .0, 
 
 -- Each run is listed
 
--- commands without loops and jumps, which evaluations are
-unfoldable pub straight : Command → Bool
-straight skip = true
-straight (emit e) = true
-straight (seq c d) = straight c && straight d
-straight (alt c d) = straight c && straight d
-straight (exit o) = false
-straight (star c) = false
-straight (catch j c) = false
+-- commands without loops
+unfoldable pub loopless : Command → Bool
+loopless skip = true
+loopless (emit e) = true
+loopless (exit o) = true
+loopless (seq c d) = loopless c && loopless d
+loopless (alt c d) = loopless c && loopless d
+loopless (catch j c) = loopless c
+loopless (star c) = false
+
+-- an ending that no run has that was cut short
+abbrev pub Settled : Ending → Type 0
+Settled falls = Unit
+Settled stops = ⊥
+Settled leaves = Unit
+Settled again = Unit
 
 pub data Among {A : Type 0} (a : A) : List A → Type 0 where
   at-first : {xs : List A} → Among a (a ∷ xs)
@@ -125,28 +137,48 @@ module _ {A : Type 0} {a : A} where
   among-map g at-first = at-first
   among-map g (at-later h) = at-later (among-map g h)
 
-among-followed : (s t : List PathEvent) {rs next : List Run} → Among (s, falls) rs → Among (t, falls) next → Among (s ++ t, falls) (eachFollowed rs next)
+among-followed : (s t : List PathEvent) (o : Ending) {rs next : List Run} → Among (s, falls) rs → Among (t, o) next → Among (s ++ t, o) (eachFollowed rs next)
 unfolding eachFollowed followed
-among-followed s t {next = next} (at-first {xs = rs}) k = among-left (eachFollowed rs next) (among-map (λ r. (s ++ r .0, r .1)) k)
-among-followed s t {next = next} (at-later {x = r} h) k = among-right (followed (r .0) (r .1) next) (among-followed s t h k)
+among-followed s t o {next = next} (at-first {xs = rs}) k = among-left (eachFollowed rs next) (among-map (λ r. (s ++ r .0, r .1)) k)
+among-followed s t o {next = next} (at-later {x = r} h) k = among-right (followed (r .0) (r .1) next) (among-followed s t o h k)
 
-all-by : (n : ℕ) (c : Command) (t : List PathEvent) (o : Ending) → o ≡ falls → straight c ≡ true → Runs c t o → Among (t, falls) (listed n c)
-unfolding listed straight
-all-by n c _ _ e q run-stop = let z : _≡_ {A = ℕ} 0 1 = cc in absurd (omega arith)
-all-by n _ _ _ e q run-skip = at-first
-all-by n _ _ _ e q run-emit = at-first
-all-by n _ _ _ e q run-emit-stop = let z : _≡_ {A = ℕ} 0 1 = cc in absurd (omega arith)
-all-by n _ _ _ e q run-exit = true-not-false (sym q)
-all-by n _ _ _ e q (run-seq {c = c} {d = d} {s = s} {t = t} {o = o} x y) =
-    let b = both-true (straight c) (straight d) q in
-    among-followed s t (all-by n c s falls refl (b .0) x) (all-by n d t o e (b .1) y)
-all-by n _ _ _ e q (run-off {c = c} {s = s} {o = o} i x) = absurd (subst Elsewhere e i)
-all-by n _ _ _ e q (run-left {c = c} {d = d} {s = s} {o = o} x) = among-left (listed n d) (all-by n c s o e (both-true (straight c) (straight d) q .0) x)
-all-by n _ _ _ e q (run-right {c = c} {d = d} {s = s} {o = o} x) = among-right (listed n c) (all-by n d s o e (both-true (straight c) (straight d) q .1) x)
-all-by n _ _ _ e q run-none = true-not-false (sym q)
-all-by n _ _ _ e q (run-more x) = true-not-false (sym q)
-all-by n _ _ _ e q (run-catch x) = true-not-false (sym q)
+followed-off : (s : List PathEvent) (o : Ending) (next : List Run) → Elsewhere o → Among (s, o) (followed s o next)
+unfolding followed
+followed-off s falls next i = absurd i
+followed-off s stops next i = at-first
+followed-off s leaves next i = at-first
+followed-off s again next i = at-first
 
--- every run to the end of such a command is listed
-pub all-listed : (n : ℕ) (c : Command) (t : List PathEvent) → straight c ≡ true → Runs c t falls → Among (t, falls) (listed n c)
-all-listed n c t q x = all-by n c t falls refl q x
+among-off : (s : List PathEvent) (o : Ending) (next : List Run) {rs : List Run} → Elsewhere o → Among (s, o) rs → Among (s, o) (eachFollowed rs next)
+unfolding eachFollowed
+among-off s o next i (at-first {xs = rs}) = among-left (eachFollowed rs next) (followed-off s o next i)
+among-off s o next i (at-later {x = r} h) = among-right (followed (r .0) (r .1) next) (among-off s o next i h)
+
+-- a catch settles nothing
+settled-inside : (j : Jump) (o : Ending) → Settled (caught j o) → Settled o
+settled-inside out-of-loop falls h = tt
+settled-inside out-of-loop stops h = h
+settled-inside out-of-loop leaves h = tt
+settled-inside out-of-loop again h = tt
+settled-inside out-of-round falls h = tt
+settled-inside out-of-round stops h = h
+settled-inside out-of-round leaves h = tt
+settled-inside out-of-round again h = tt
+
+-- every run of such a command that was not cut short is listed
+pub all-listed : (n : ℕ) {c : Command} {t : List PathEvent} {o : Ending} → loopless c ≡ true → Settled o → Runs c t o → Among (t, o) (listed n c)
+unfolding listed loopless
+all-listed n q e run-stop = absurd e
+all-listed n q e run-skip = at-first
+all-listed n q e run-emit = at-first
+all-listed n q e run-emit-stop = absurd e
+all-listed n q e run-exit = at-first
+all-listed n q e (run-seq {c = c} {d = d} {s = s} {t = t} {o = o} x y) =
+    let b = both-true (loopless c) (loopless d) q in
+    among-followed s t o (all-listed n (b .0) tt x) (all-listed n (b .1) e y)
+all-listed n q e (run-off {c = c} {d = d} {s = s} {o = o} i x) = among-off s o (listed n d) i (all-listed n (both-true (loopless c) (loopless d) q .0) e x)
+all-listed n q e (run-left {c = c} {d = d} x) = among-left (listed n d) (all-listed n (both-true (loopless c) (loopless d) q .0) e x)
+all-listed n q e (run-right {c = c} {d = d} x) = among-right (listed n c) (all-listed n (both-true (loopless c) (loopless d) q .1) e x)
+all-listed n q e run-none = true-not-false (sym q)
+all-listed n q e (run-more x) = true-not-false (sym q)
+all-listed n q e (run-catch {j = j} {o = o} x) = among-map (λ r. (r .0, caught j (r .1))) (all-listed n q (settled-inside j o e) x)

@@ -1,23 +1,23 @@
 -- Which evaluations must exist. A theorem about all runs is true of too few runs as well, so each sentence of document 01,
 -- "How a path runs", on expressions and targets has small rows here with the complete list of their runs.
-use mathlib.Core.Path.{_≡_, refl, ap, subst}
+use mathlib.Core.Path.{_≡_, refl}
 use mathlib.Core.Bool.{Bool, true, false}
 use mathlib.Core.List.{List, [], _∷_, _++_, map}
 use Prim.Native.Nat.{ℕ}
 use Prim.Native.String.{String}
 use lib.ListN.{take, drop, take-append-drop}
 use Rattle.table.specs.Rows.{Forest, nil, node, rest}
-use Rattle.table.specs.Fold.{fold, nth, tail}
+use Rattle.table.specs.Fold.{fold, nth}
 use Rattle.kinds.specs.Kinds.{kinds}
 use Rattle.kinds.specs.Words.{same, placeFrom, kindOf}
 use Rattle.kinds.specs.Named.{kindNumber, numbered, exprClass}
 use Rattle.reads.specs.PathRows.{isNamed, begins, count, segments, isLocal}
 use Rattle.reads.specs.Mentions.{inRowOrder, seenBelow, seenAt, seen, some, refers}
 use Rattle.reads.specs.Iffs.{iffHere, every, iffAt, iffQuiet}
-use Rattle.paths.specs.Commands.{PathEvent, read, write, choice, falls, stops, leaves, again, out-of-loop, out-of-round, Command, emit, exit, seq, star, catch, Runs}
+use Rattle.paths.specs.Commands.{PathEvent, read, write, choice, Ending, falls, stops, leaves, again, out-of-loop, out-of-round, Command, emit, exit, seq, star, catch, Runs}
 use Rattle.paths.specs.Evaluation.{Truth, is-true, is-false, Evaluation, noEvaluation, evaluationAt, evaluations}
 use Rattle.paths.proofs.Prefixes.{prefix}
-use Rattle.paths.proofs.Listed.{Run, IsRun, Each, followed, eachFollowed, rounds, listed, each-map, listed-run, straight, Among, all-listed}
+use Rattle.paths.proofs.Listed.{Run, IsRun, Each, followed, eachFollowed, rounds, listed, each-map, listed-run, each-expected, loopless, Settled, Among, all-listed}
 
 -- Rows
 
@@ -342,50 +342,40 @@ joint = refl
 
 -- So each of them can happen
 
-pub shortened-run : (extent : Extent) (c : Command) (rs : List Run) → Each (IsRun c) rs → Each (IsRun c) (shortened extent rs)
+shortened-run : (extent : Extent) (c : Command) (rs : List Run) → Each (IsRun c) rs → Each (IsRun c) (shortened extent rs)
 shortened-run whole c rs h = h
 shortened-run (up-to n) c rs h =
     each-map (IsRun c) (IsRun c) (λ r. (take n (r .0), stops)) (λ r i. prefix {o = r .1} (take n (r .0)) (drop n (r .0)) (rw (take-append-drop n (r .0)) i)) rs h
 
+pub must-list : (extent : Extent) (n : ℕ) (c : Command) → Each (IsRun c) (shortened extent (listed n c))
+must-list extent n c = shortened-run extent c (listed n c) (listed-run n c)
+
 abbrev pub MustRun : Case → Type 0
 MustRun c = Each (IsRun (commandOf c)) (c .expected)
 
-expected-run : (cs : List Case) → map shown cs ≡ map (λ c. c .expected) cs → Each MustRun cs
-expected-run [] e = tt
-expected-run (c ∷ cs) e = (
-  subst (Each (IsRun (commandOf c))) (ap (nth [] 0) e) (shortened-run (c .extent) (commandOf c) (listed 0 (commandOf c)) (listed-run 0 (commandOf c))),
-  expected-run cs (ap tail e),
-)
-
 pub must-run : Each MustRun cases
-must-run = expected-run cases joint
+must-run = each-expected (λ c. Each (IsRun (commandOf c))) shown (λ c. c .expected) (λ c. must-list (c .extent) 0 (commandOf c)) cases joint
 
--- and, of a row that is evaluated to its end, nothing else can
+-- and, where nothing is repeated and no run is cut short, nothing else can
 
-joint-straight : map (λ c. straight (commandOf c)) cases ≡ map (λ c. true) cases
-unfolding fold evaluationAt exprClass numbered kindNumber kindOf placeFrom kinds same isNamed begins count segments isLocal straight
-joint-straight = refl
-
-abbrev OnlyBy : Extent → Command → List Run → Type 0
-OnlyBy whole c rs = (t : List PathEvent) → Runs c t falls → Among (t, falls) rs
+abbrev pub OnlyBy : Extent → Command → List Run → Type 0
+OnlyBy whole c rs = loopless c ≡ true → (t : List PathEvent) (o : Ending) → Settled o → Runs c t o → Among (t, o) rs
 OnlyBy (up-to n) c rs = Unit
+
+pub only-by : (extent : Extent) (n : ℕ) (c : Command) → OnlyBy extent c (shortened extent (listed n c))
+only-by whole n c = λ q t o e x. all-listed n q e x
+only-by (up-to m) n c = tt
 
 abbrev pub OnlyRuns : Case → Type 0
 OnlyRuns c = OnlyBy (c .extent) (commandOf c) (c .expected)
 
-only-by : (extent : Extent) (c : Command) → straight c ≡ true → OnlyBy extent c (shortened extent (listed 0 c))
-only-by whole c q = λ t x. all-listed 0 c t q x
-only-by (up-to n) c q = tt
-
-expected-only : (cs : List Case) → map shown cs ≡ map (λ c. c .expected) cs → map (λ c. straight (commandOf c)) cs ≡ map (λ c. true) cs → Each OnlyRuns cs
-expected-only [] e q = tt
-expected-only (c ∷ cs) e q = (
-  subst (OnlyBy (c .extent) (commandOf c)) (ap (nth [] 0) e) (only-by (c .extent) (commandOf c) (ap (nth false 0) q)),
-  expected-only cs (ap tail e) (ap tail q),
-)
-
 pub only-runs : Each OnlyRuns cases
-only-runs = expected-only cases joint joint-straight
+only-runs = each-expected (λ c. OnlyBy (c .extent) (commandOf c)) shown (λ c. c .expected) (λ c. only-by (c .extent) 0 (commandOf c)) cases joint
+
+-- no expression repeats anything
+pub joint-loopless : map (λ c. loopless (commandOf c)) cases ≡ map (λ c. true) cases
+unfolding fold evaluationAt exprClass numbered kindNumber kindOf placeFrom kinds same isNamed begins count segments isLocal loopless
+joint-loopless = refl
 
 -- The commands that no expression has: jumps, what ends them, and rounds, two at most
 

@@ -92,7 +92,8 @@ binary s es =
     (cond (eqb s 2) (asked (either (nth noEvaluation 0 es) (nth noEvaluation 1 es)))
     (free (seq (nth noEvaluation 0 es .value) (nth noEvaluation 1 es .value))))
 
--- "A call with side 1 writes the whole local"; "A call path beginning with the local reads unless side is 1" (13.4, 13.5)
+-- "A call with side 1 writes the whole local"; "A call path beginning with the local reads unless side is 1"; "what a called
+-- function with side 2 or 3 reads inside itself ... is no read of the path" (13.4, 13.5)
 abbrev pub call : Bool → ℕ → List Evaluation → Evaluation
 call headed s es = cond (eqb s 1) (free (emit write)) (free (seq (readIf headed) (inOrder es)))
 

@@ -1,10 +1,10 @@
 -- Which paths must exist, and which sheets meet the premises. A theorem about all paths of such sheets is true of too few of either
 -- as well, so each sentence of document 01, "How a path runs", on statements has small rows here with the complete list of their
 -- runs, up to a number of rounds, and each premise has rows that meet it and rows that do not.
-use mathlib.Core.Path.{_≡_, refl, ap, subst}
-use mathlib.Core.Bool.{Bool}
+use mathlib.Core.Path.{_≡_, refl, ap}
+use mathlib.Core.Bool.{Bool, true, false}
 use mathlib.Core.List.{List, [], _∷_, _++_, map}
-use Prim.Native.Nat.{ℕ}
+use Prim.Native.Nat.{ℕ, suc}
 use Prim.Native.String.{String}
 use lib.Dec.{eqb}
 use Rattle.table.specs.Rows.{nil, rest}
@@ -16,8 +16,8 @@ use Rattle.reads.specs.PathRows.{isNamed, begins, count, segments, isLocal, isM
 use Rattle.reads.specs.Mentions.{inRowOrder, seenBelow, seenAt, seen, some, refers}
 use Rattle.paths.specs.Commands.{PathEvent, read, write, outside, choice, falls, stops, leaves, again, Command}
 use Rattle.paths.specs.Evaluation.{evaluationAt}
-use Rattle.paths.proofs.Listed.{Run, IsRun, Each, followed, eachFollowed, rounds, listed, each-imply, listed-run}
-use Rattle.paths.proofs.Strength.{Row, row, x, y, w, pathOf, lident, X, Y, W, lit, opaque, absent, and!, plus, event, ident, Extent, whole, up-to, shortened, shortened-run}
+use Rattle.paths.proofs.Listed.{Run, IsRun, Each, followed, eachFollowed, rounds, listed, each-imply, each-expected, loopless}
+use Rattle.paths.proofs.Strength.{Row, row, x, y, w, pathOf, lident, X, Y, W, lit, opaque, absent, and!, plus, event, ident, Extent, whole, up-to, shortened, must-list, OnlyBy, only-by}
 use Rattle.stmt_paths.specs.Execution.{heldAt, executionAt, executed, IsPath}
 use Rattle.stmt_paths.specs.Premises.{placeOf, placedBelow, placedAt, placedTogether, placedRows, refersAt, plainAt, rowHolds, FirstFailing, nowhere, at-row, firstFalse, firstFailing, rowOf, RowPremises, Premises}
 use Rattle.stmt_paths.proofs.PremiseTest.{all-hold, fails-at}
@@ -440,16 +440,8 @@ joint = refl
 abbrev pub MustRun : Case → Type 0
 MustRun c = Each (IsRun (commandOf c)) (c .expected)
 
-expected-run : (cs : List Case) → map shown cs ≡ map (λ c. c .expected) cs → Each MustRun cs
-expected-run [] e = tt
-expected-run (c ∷ cs) e = (
-  subst (Each (IsRun (commandOf c))) (ap (nth [] 0) e)
-      (shortened-run (c .extent) (commandOf c) (listed (c .most) (commandOf c)) (listed-run (c .most) (commandOf c))),
-  expected-run cs (ap tail e),
-)
-
 pub must-run : Each MustRun cases
-must-run = expected-run cases joint
+must-run = each-expected (λ c. Each (IsRun (commandOf c))) shown (λ c. c .expected) (λ c. must-list (c .extent) (c .most) (commandOf c)) cases joint
 
 -- and is a path, however it ends
 
@@ -461,6 +453,24 @@ runs-are-paths c = each-imply (IsRun (commandOf c)) (λ r. IsPath x marks (c .wh
 
 pub must-be-paths : Each MustBePaths cases
 must-be-paths = each-imply MustRun MustBePaths runs-are-paths cases must-run
+
+-- and of a statement without loops, no other run ends otherwise than by stopping
+
+abbrev pub OnlyRuns : Case → Type 0
+OnlyRuns c = OnlyBy (c .extent) (commandOf c) (c .expected)
+
+pub only-runs : Each OnlyRuns cases
+only-runs = each-expected (λ c. OnlyBy (c .extent) (commandOf c)) shown (λ c. c .expected) (λ c. only-by (c .extent) (c .most) (commandOf c)) cases joint
+
+-- how many these are
+abbrev howMany : List Bool → ℕ
+howMany [] = 0
+howMany (true ∷ bs) = suc (howMany bs)
+howMany (false ∷ bs) = howMany bs
+
+pub loopless-cases : howMany (map (λ c. loopless (commandOf c)) cases) ≡ 162
+unfolding fold evaluationAt heldAt executionAt exprClass stmtClass stmtClassIn stmtWords taskEffect numbered kindNumber kindOf placeFrom kinds same isNamed begins count segments isLocal isMarked isLoopJump inRowOrder seenBelow seenAt seen some refers loopless
+loopless-cases = refl
 
 -- The premises: the first row at which one fails
 
