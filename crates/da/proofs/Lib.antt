@@ -1,12 +1,4 @@
-pub mod Known
 pub mod Merging
-pub mod Sound
-pub mod Asking
-pub mod Law
-pub mod Looping
-pub mod Choosing
-pub mod Rows
-pub mod Demand3
 pub mod Timing
 pub mod Written
 pub mod Shared

@@ -1,3 +1,2 @@
 pub mod Outcome
 pub mod Walk
-pub mod Demand3

@@ -93,8 +93,8 @@ whileTrue s c body step = loop s (c .truth is-true) body step (unmet c)
 abbrev pub repeated : ℕ → Command → Command → Command
 repeated s body end = loop s (emit (choice 1)) body skip end
 
--- "leaves the nearest loop or only its round, either one freely, since the mark doesn't tell which" (12.8); any other disable falls through, outside the premises
--- (9.6.2)
+-- "leaves the nearest loop or only its round, either one freely, since the mark doesn't tell which" (12.8); any other disable falls
+-- through, outside the premises (9.6.2)
 abbrev pub jump : Bool → Command
 jump true = alt (seq (emit (choice 0)) (exit leaves)) (seq (emit (choice 1)) (exit again))
 jump false = skip

@@ -7,10 +7,10 @@ use Rattle.paths.specs.Triples.{at, never, Triple}
 use Rattle.paths.proofs.Rules.{rule-skip}
 use Rattle.expr_effect.specs.Law.{ExprLaw}
 use Rattle.stmt_paths.specs.Execution.{Execution, noExecution}
 use Rattle.da.specs.Outcome.{State}
 use Rattle.da.specs.Walk.{Walk, noWalk}
-use Rattle.da.proofs.Known.{known}
-use Rattle.da.proofs.Sound.{Sound, sound-falls}
+use Rattle.soundness.proofs.Known.{known}
+use Rattle.soundness.proofs.Sound.{Sound, sound-falls}
 
 pub record StmtLaw (w : Walk) (e : Execution) : Type 0 where
   -- from every state, the answer is sound

@@ -31,18 +31,18 @@ use Rattle.expr_effect.proofs.Laws.{expr-laws, no-law as no-expr-law, none-refe
 use Rattle.stmt_paths.specs.Execution.{Execution, plain, noExecution, oneByOne, ifElse as ifRuns, caseOf as caseRuns, whileTrue as whileRuns, assignment, jump, executionOf, heldAt as heldEvaluationsAt, heldEvaluations, executionAt, executions}
 use Rattle.stmt_paths.proofs.Conditions.{unmet-so}
 use Rattle.loops.proofs.Staying.{NeverJumps, stay, stay-at}
 use Rattle.da.specs.declared.DaOut.the-variants.{Falls, Jumps}
 use Rattle.da.specs.declared.DaResult.{DaResult}
 use Rattle.da.specs.declared.DaResult.the-variants.{Ok}
 use Rattle.da.specs.declared.CallEffect.the-variants.{Inert, Writes as CallWrites, Reads as CallReads, Unknown}
 use Rattle.da.specs.Outcome.{State, written, isWritten, gains, merge, _▷_, giveUp}
 use Rattle.da.specs.Walk.{DaCtx, Walk, StmtRow, exprOutWrites, once, stmt, noWalk, assigned, blocking, block, elseFrom, ifElse, arms, hasDefault, caseOf, rounds, whileTrue, task, referring, walkOf, heldAt, heldFacts, stmtRow, walkAt, walks}
-use Rattle.da.proofs.Known.{known, known-written, known-all, known-gains, known-gained, gains-nothing}
-use Rattle.da.proofs.Sound.{Sound, sound-falls, sound-jumps, sound-stop, loose, unless, by-test, sound-then, sound-or-stop, sound-next, sound-state, sound-merge}
-use Rattle.da.proofs.Asking.{once-unmet, asked-keeps, asked-gains, unless-read, when-evaluated, refers-keeps, unless-one-read, calm-each, quiet-each}
-use Rattle.da.proofs.Law.{StmtLaw, no-law}
-use Rattle.da.proofs.Looping.{rounds-so}
-use Rattle.da.proofs.Choosing.{arms-so}
+use Rattle.soundness.proofs.Known.{known, known-written, known-all, known-gains, known-gained, gains-nothing}
+use Rattle.soundness.proofs.Sound.{Sound, sound-falls, sound-jumps, sound-stop, loose, unless, by-test, sound-then, sound-or-stop, sound-next, sound-state, sound-merge}
+use Rattle.soundness.proofs.Asking.{once-unmet, asked-keeps, asked-gains, unless-read, when-evaluated, refers-keeps, unless-one-read, calm-each, quiet-each}
+use Rattle.soundness.proofs.Law.{StmtLaw, no-law}
+use Rattle.soundness.proofs.Looping.{rounds-so}
+use Rattle.soundness.proofs.Choosing.{arms-so}
 
 -- Constructs
 

@@ -6,13 +6,13 @@ use Rattle.paths.specs.Marks.{Mark, none, ⊑-refl, none-⊑}
 use Rattle.paths.specs.Commands.{stops, Command, exit, seq, alt}
 use Rattle.paths.specs.Triples.{Claim, at, never, Triple}
 use Rattle.paths.proofs.Rules.{_≽_, less, nowhere, ≽-refl, weaken, keep, rule-stops, rule-seq, rule-seq-never, rule-alt}
 use Rattle.da.specs.declared.DaOut.{DaOut}
 use Rattle.da.specs.declared.DaOut.the-variants.{Falls, Jumps}
 use Rattle.da.specs.declared.DaGiveUp.{DaGiveUp}
 use Rattle.da.specs.declared.DaResult.{DaResult}
 use Rattle.da.specs.declared.DaResult.the-variants.{Ok, Err}
 use Rattle.da.specs.Outcome.{State, written, state, merge, goOn, _▷_}
-use Rattle.da.proofs.Known.{known, known-meet-first, known-meet-second}
+use Rattle.soundness.proofs.Known.{known, known-meet-first, known-meet-second}
 
 -- from a mark on: falls means that so much is written next, jumps that nothing is run next; a give-up claims nothing. Of loop
 -- jumps nothing is claimed.

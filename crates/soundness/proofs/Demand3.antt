@@ -15,17 +15,17 @@ use Rattle.paths.proofs.Meaning.{reads-written, fall-is-written}
 use Rattle.stmt_paths.specs.Execution.{noExecution, executed, IsPath}
 use Rattle.stmt_paths.specs.Premises.{nowhere, firstFailing}
 use Rattle.stmt_paths.proofs.PremiseTest.{all-hold, premises-iff}
 use Rattle.da.specs.declared.DaOut.{DaOut}
 use Rattle.da.specs.declared.DaOut.the-variants.{Falls, Jumps}
 use Rattle.da.specs.declared.DaResult.{DaResult}
 use Rattle.da.specs.declared.DaResult.the-variants.{Ok}
 use Rattle.da.specs.Outcome.{State, unwritten, written, Accepted}
 use Rattle.da.specs.Walk.{DaCtx, daCtx, noWalk, daStmt}
-use Rattle.da.specs.Demand3.{Demand3, Demand3FromIff, FallsWritten, NeverFalls}
-use Rattle.da.proofs.Known.{known, known-unwritten, known-written}
-use Rattle.da.proofs.Sound.{Sound, sound-falls, sound-jumps, sound-stop}
-use Rattle.da.proofs.Law.{no-law}
-use Rattle.da.proofs.Rows.{stmt-laws}
+use Rattle.soundness.specs.Demand3.{Demand3, Demand3FromIff, FallsWritten, NeverFalls}
+use Rattle.soundness.proofs.Known.{known, known-unwritten, known-written}
+use Rattle.soundness.proofs.Sound.{Sound, sound-falls, sound-jumps, sound-stop}
+use Rattle.soundness.proofs.Law.{no-law}
+use Rattle.soundness.proofs.Rows.{stmt-laws}
 
 -- the answer for row 0 is sound
 first-sound : (ctx : DaCtx) (f : Forest) (start : State) → iffQuiet (ctx .local) f ≡ true → Sound (known start) (executed (ctx .local) (ctx .marks) f) (daStmt ctx f start)

@@ -15,13 +15,13 @@ use Rattle.expr_effect.specs.declared.ExprDa.the-variants.{Clean, Writes, Reads
 use Rattle.expr_effect.specs.Effect.{writesWhen}
 use Rattle.expr_effect.specs.Law.{EffectLaw, Meets, WhenLaw, ExprFacts, NoneRefer, none-left, and-more, ExprLaw}
 use Rattle.stmt_paths.specs.Execution.{unmet}
 use Rattle.da.specs.declared.DaGiveUp.{DaGiveUp}
 use Rattle.da.specs.declared.DaResult.{DaResult}
 use Rattle.da.specs.declared.DaResult.the-variants.{Err}
 use Rattle.da.specs.Outcome.{State, isWritten, gains}
 use Rattle.da.specs.Walk.{isReads, isWrites, exprReads, exprOutWrites, unlessRead, unlessOneRead, evaluated, once}
-use Rattle.da.proofs.Known.{known, known-all, known-gained, gains-nothing}
-use Rattle.da.proofs.Sound.{unless}
+use Rattle.soundness.proofs.Known.{known, known-all, known-gained, gains-nothing}
+use Rattle.soundness.proofs.Sound.{unless}
 
 -- the question of reason 2, answered no
 abbrev NotRead : ExprDa → State → Type 0

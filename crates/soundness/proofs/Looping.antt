@@ -11,13 +11,13 @@ use Rattle.paths.specs.Triples.{at, never, Triple}
 use Rattle.paths.proofs.Rules.{less, nowhere, full-any, weaken, still, rule-seq, rule-star, rule-catch, rule-catch-never}
 use Rattle.stmt_paths.specs.Execution.{round, loop}
 use Rattle.loops.proofs.Staying.{NeverJumps}
 use Rattle.da.specs.declared.DaOut.the-variants.{Falls}
 use Rattle.da.specs.declared.DaResult.{DaResult}
 use Rattle.da.specs.declared.DaResult.the-variants.{Ok}
 use Rattle.da.specs.Outcome.{State, gains, _▷_}
 use Rattle.da.specs.Walk.{StmtRow, fallsWritten, loopBodyAssigns}
-use Rattle.da.proofs.Known.{known, known-all, known-gained, gains-nothing}
-use Rattle.da.proofs.Sound.{Sound, sound-falls, sound-jumps, sound-stop, loose, sound-kept}
+use Rattle.soundness.proofs.Known.{known, known-all, known-gained, gains-nothing}
+use Rattle.soundness.proofs.Sound.{Sound, sound-falls, sound-jumps, sound-stop, loose, sound-kept}
 
 -- a: before the condition; after: what the loop's end knows; m: where the body and the step start
 module _ {a after m : Mark} {head end : Command} (body step : Command) (up : a ⊑ after) (inside : after ⊑ m)

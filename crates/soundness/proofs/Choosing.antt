@@ -11,18 +11,18 @@ use Rattle.paths.specs.Evaluation.{inOrder}
 use Rattle.paths.proofs.Rules.{rule-skip, rule-choice, rule-stops, rule-seq, rule-alt}
 use Rattle.paths.proofs.Evaluating.{in-order}
 use Rattle.stmt_paths.specs.Execution.{Execution, allLabels, hasDefault as defaultStands, armsFrom}
 use Rattle.da.specs.declared.DaOut.{DaOut}
 use Rattle.da.specs.declared.DaOut.the-variants.{Falls, Jumps}
 use Rattle.da.specs.declared.DaGiveUp.{DaGiveUp}
 use Rattle.da.specs.declared.DaResult.{DaResult}
 use Rattle.da.specs.declared.DaResult.the-variants.{Ok, Err}
 use Rattle.da.specs.Outcome.{State, isWritten, merge, _▷_}
 use Rattle.da.specs.Walk.{Walk, arms, hasDefault}
-use Rattle.da.proofs.Known.{known}
-use Rattle.da.proofs.Asking.{unless-one-read}
+use Rattle.soundness.proofs.Known.{known}
+use Rattle.soundness.proofs.Asking.{unless-one-read}
 use Rattle.da.proofs.Merging.{merge-assoc}
-use Rattle.da.proofs.Sound.{Sound, sound-falls, sound-jumps, sound-stop, loose, by-test, sound-then, sound-merge, sound-kept}
-use Rattle.da.proofs.Law.{StmtLaw}
+use Rattle.soundness.proofs.Sound.{Sound, sound-falls, sound-jumps, sound-stop, loose, by-test, sound-then, sound-merge, sound-kept}
+use Rattle.soundness.proofs.Law.{StmtLaw}
 
 -- arms that were walked, and what they came to together: the labels of each read nothing too soon, and each arm is sound
 pub data Walked (after : State) : List Execution → DaOut → Type 0 where

@@ -1,0 +1,1 @@
+// The walk against the paths, as laws; nothing here runs.
