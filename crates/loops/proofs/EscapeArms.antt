@@ -9,15 +9,14 @@ use Rattle.table.specs.Rows.{Forest}
 use Rattle.table.specs.Fold.{fold}
 use Rattle.kinds.specs.declared.StmtClass.{StmtClass}
 use Rattle.kinds.specs.declared.StmtClass.the-variants.{Absent, Match, Default, Decl, Blocking, Nonblocking, If, Return, Case, For, While, Repeat, Forever, Block, Fork, Systask, Task, Delayctrl, Eventctrl, Wait, Disable, Null, Unmodelled, NoStmt}
-use Rattle.kinds.specs.Kinds.{kinds, entry, classNumber, isKind, fits}
+use Rattle.kinds.specs.Kinds.{kinds, entry, classNumber, isKind}
 use Rattle.kinds.specs.Words.{same, placeFrom, kindOf}
 use Rattle.kinds.specs.Named.{kindNumber, numbered, stmtWords, stmtClassIn, stmtClass}
 use Rattle.kinds.proofs.Below.{both-true, everyBelow, below}
-use Rattle.checks.specs.Checks.{kindsOf}
 use Rattle.loops.specs.Fitting.{fitting}
 use Rattle.loops.specs.Escape.{transfers, cannotEscapeAt, cannotEscapes, escapeArm, stmtCannotEscapeAt}
 use Rattle.loops.proofs.Gather.{by-and}
-use Rattle.loops.proofs.Places.{classOf, Told, Rows, no-row, row, suits, places, look, rows-related}
+use Rattle.loops.proofs.Places.{classOf, Told, Rows, no-row, row, suits, places, look, RowStep, rows-related}
 use Rattle.loops.proofs.Bodies.{placesOf, look-first, look-second, look-both, look-three, if-so, so}
 
 -- a class that is neither S nor arm; every class is fair
@@ -72,12 +71,7 @@ arm-is NoStmt bs = refl
 abbrev Siblings : List ℕ → List Bool → List Bool → Type 0
 Siblings = Rows (Told true quiet fair)
 
-escape-step : (k s lo hi : ℕ) (cs : Forest)
-    → isKind k ≡ true
-    → fits (entry k .children) (kindsOf cs) ≡ true
-    → fitting cs ≡ true
-    → Siblings (kindsOf cs) (fold cannotEscapeAt cs) (fold stmtCannotEscapeAt cs)
-    → Told true quiet fair k (cannotEscapeAt k s lo hi cs (fold cannotEscapeAt cs)) (stmtCannotEscapeAt k s lo hi cs (fold stmtCannotEscapeAt cs))
+escape-step : RowStep (Told true quiet fair) cannotEscapeAt stmtCannotEscapeAt
 unfolding isKind cannotEscapeAt stmtCannotEscapeAt
 escape-step k s lo hi cs u f h ws =
     let own = not (transfers (stmtClass k)) in

@@ -179,14 +179,19 @@ module _ (k s lo hi : ℕ) (cs others : Forest) (e : fitting (node k s lo hi cs 
   pub fitting-others : fitting others ≡ true
   fitting-others = parts .1
 
--- two answers are related at every row of a fitting tree, if they are at each row whose children's are
-pub rows-related : {R : ℕ → Bool → Bool → Type 0} (one two : Alg Bool)
-    → ((k s lo hi : ℕ) (cs : Forest)
+-- two answers of a row are related, where those of its children are and the children fit
+abbrev pub RowStep : (ℕ → Bool → Bool → Type 0) → Alg Bool → Alg Bool → Type 0
+RowStep R one two =
+    (k s lo hi : ℕ) (cs : Forest)
     → isKind k ≡ true
     → fits (entry k .children) (kindsOf cs) ≡ true
     → fitting cs ≡ true
     → Rows R (kindsOf cs) (fold one cs) (fold two cs)
-    → R k (one k s lo hi cs (fold one cs)) (two k s lo hi cs (fold two cs)))
+    → R k (one k s lo hi cs (fold one cs)) (two k s lo hi cs (fold two cs))
+
+-- two answers are related at every row of a fitting tree, if they are at each row whose children's are
+pub rows-related : {R : ℕ → Bool → Bool → Type 0} (one two : Alg Bool)
+    → RowStep R one two
     → (f : Forest)
     → fitting f ≡ true
     → Rows R (kindsOf f) (fold one f) (fold two f)

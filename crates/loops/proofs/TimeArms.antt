@@ -20,7 +20,7 @@ use Rattle.reads.specs.Mentions.{some}
 use Rattle.loops.specs.Fitting.{fitting}
 use Rattle.loops.specs.Time.{waitingWords, isOneOf, letsTimePass, advancesAt, advances, isThereAt, timeArm, stmtAdvancesAt}
 use Rattle.loops.proofs.Gather.{by-or}
-use Rattle.loops.proofs.Places.{either, classOf, Told, Rows, suits, places, look, rows-related}
+use Rattle.loops.proofs.Places.{either, classOf, Told, Rows, suits, places, look, RowStep, rows-related}
 use Rattle.loops.proofs.Bodies.{placesOf, look-first, look-second, look-both, look-two, look-three, if-so, so}
 
 -- delay and intra
@@ -76,12 +76,7 @@ all-there : everyBelow thereSuits 66 ≡ true
 unfolding everyBelow entry kinds classNumber numbered kindNumber kindOf placeFrom same isOneOf waitingWords
 all-there = refl
 
-there-step : (k s lo hi : ℕ) (cs : Forest)
-    → isKind k ≡ true
-    → fits (entry k .children) (kindsOf cs) ≡ true
-    → fitting cs ≡ true
-    → Rows (Told false quiet fairThere) (kindsOf cs) (fold advancesAt cs) (fold isThereAt cs)
-    → Told false quiet fairThere k (advancesAt k s lo hi cs (fold advancesAt cs)) (isThereAt k s lo hi cs (fold isThereAt cs))
+there-step : RowStep (Told false quiet fairThere) advancesAt isThereAt
 unfolding advancesAt isThereAt letsTimePass
 there-step k s lo hi cs u f h ws = record {
   idle = idle-time k s u fairThere refl f ws;
@@ -210,12 +205,7 @@ module _ (k s : ℕ) (u : isKind k ≡ true) (q : fair (classOf k) ≡ true) {ks
       go false true e g h = assign-time e g
       go false false e g h = arm-time e h
 
-time-step : (k s lo hi : ℕ) (cs : Forest)
-    → isKind k ≡ true
-    → fits (entry k .children) (kindsOf cs) ≡ true
-    → fitting cs ≡ true
-    → Rows (Told false quiet fair) (kindsOf cs) (fold advancesAt cs) (fold stmtAdvancesAt cs)
-    → Told false quiet fair k (advancesAt k s lo hi cs (fold advancesAt cs)) (stmtAdvancesAt k s lo hi cs (fold stmtAdvancesAt cs))
+time-step : RowStep (Told false quiet fair) advancesAt stmtAdvancesAt
 unfolding advancesAt stmtAdvancesAt
 time-step k s lo hi cs u f h ws = record {
   idle = idle-time k s u fair refl f ws;
