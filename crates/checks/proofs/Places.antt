@@ -1,81 +1,97 @@
 -- Where a check refuses: at a row of the table.
 use Prim.Native.Nat.{ℕ, zero, suc, _+_, _≤_, _<_}
-use mathlib.Core.Path.{_≡_, refl, sym, _∙_}
+use mathlib.Core.Path.{_≡_, refl, sym, subst, _∙_}
 use mathlib.Core.Bool.{Bool, true, false, cond, _&&_}
 use mathlib.Core.List.{List}
 use native.Mathlib.Omega.{arith}
 use lib.Dec.{leb}
 use Rattle.table.specs.Rows.{kindAt, endAt}
 use Rattle.kinds.specs.Kinds.{S, isKind, inClass}
+use Rattle.kinds.proofs.Below.{true-not-false}
 use Rattle.checks.specs.declared.Fault.{Fault}
 use Rattle.checks.specs.declared.Fault.the-variants.{NotHeld, WrongEnd, TooDeep, WrongChildren}
 use Rattle.checks.specs.declared.Checked.{Checked}
 use Rattle.checks.specs.declared.Checked.the-variants.{Passed, Refused}
-use Rattle.checks.specs.Checks.{holds, andThen, firstFrom, whenHeld, enclosing, endFits, depthAt, endsAt, endsOf, childrenFit, childrenAt, rootAt, childrenOf}
-use Rattle.checks.proofs.Room.{held-facts, passed-held}
+use Rattle.checks.specs.Checks.{numberOf, holds, andThen, firstFrom, whenHeld, enclosing, endFits, depthAt, endsAt, endsOf, childrenFit, childrenAt, rootAt, childrenOf}
+use Rattle.checks.specs.Held.{Held}
+use Rattle.checks.proofs.Room.{held-facts, holds-true, passed-held}
 
--- a refusal, if there is one, is at a row from low to below high
-pub record Within (low high : ℕ) (c : Checked) : Type 0 where
+-- a refusal, if there is one, is at a row from low to below high, and its number is at most `most`
+pub record Within (low high most : ℕ) (c : Checked) : Type 0 where
   pub row : (fault : Fault) (row : ℕ) → c ≡ Refused fault row → (low ≤ row) × (row < high)
+  pub number : (fault : Fault) (row : ℕ) → c ≡ Refused fault row → numberOf fault ≤ most
 
-passes : {low high : ℕ} → Within low high Passed
-passes = record { row = λ fault row e. absurd (let z : _≡_ {A = ℕ} 0 1 = cc in omega arith) }
+passes : {low high most : ℕ} → Within low high most Passed
+passes = record {
+  row = λ fault row e. absurd (let z : _≡_ {A = ℕ} 0 1 = cc in omega arith);
+  number = λ fault row e. absurd (let z : _≡_ {A = ℕ} 0 1 = cc in omega arith);
+}
 
-refuses : {low high : ℕ} (fault : Fault) (row : ℕ) → low ≤ row → row < high → Within low high (Refused fault row)
-refuses fault row a b = record { row = λ f r e. let z : r ≡ row = cc in (omega arith, omega arith) }
+refuses : {low high most : ℕ} (fault : Fault) (row : ℕ) → low ≤ row → row < high → numberOf fault ≤ most → Within low high most (Refused fault row)
+refuses {most = most} fault row a b c = record {
+  row = λ f r e. let z : r ≡ row = cc in (omega arith, omega arith);
+  number = λ f r e. let z : fault ≡ f = cc in subst (λ (g : Fault). numberOf g ≤ most) z c;
+}
 
 -- a range in a wider one
-widen : {low high : ℕ} {c : Checked} (l h : ℕ) → l ≤ low → high ≤ h → Within low high c → Within l h c
-widen l h a b w = record { row = λ fault row e. let p = w .row fault row e in (omega (arith, p .0), omega (arith, p .1)) }
+widen : {low high most : ℕ} {c : Checked} (l h : ℕ) → l ≤ low → high ≤ h → Within low high most c → Within l h most c
+widen l h a b w = record { row = λ fault row e. let p = w .row fault row e in (omega (arith, p .0), omega (arith, p .1)); number = w .number }
 
 -- one of two, by a test
-choice : {low high : ℕ} {x y : Checked} (b : Bool) → (b ≡ true → Within low high x) → Within low high y → Within low high (cond b x y)
+choice : {low high most : ℕ} {x y : Checked} (b : Bool) → (b ≡ true → Within low high most x) → (b ≡ false → Within low high most y) → Within low high most (cond b x y)
 choice true p q = p refl
-choice false p q = q
+choice false p q = q refl
 
 -- two checks, the second asked where the first passed
-both : {low high : ℕ} {b : Checked} (a : Checked) → Within low high a → (a ≡ Passed → Within low high b) → Within low high (andThen a b)
+both : {low high most : ℕ} {b : Checked} (a : Checked) → Within low high most a → (a ≡ Passed → Within low high most b) → Within low high most (andThen a b)
 both Passed p q = q refl
 both (Refused fault row) p q = p
 
 -- where each row's test refuses at that row only, the first refusal of n rows from row i on is at one of them
-pub first-within : (test : ℕ → Checked) (n i : ℕ) → ((k : ℕ) → Within k (k + 1) (test k)) → Within i (i + n) (firstFrom test n i)
+first-within : (most : ℕ) (test : ℕ → Checked) (n i : ℕ) → ((k : ℕ) → Within k (k + 1) most (test k)) → Within i (i + n) most (firstFrom test n i)
 unfolding firstFrom
-first-within test zero i own = passes
-first-within test (suc n) i own =
+first-within most test zero i own = passes
+first-within most test (suc n) i own =
     both (test i) (widen i (i + suc n) (omega arith) (omega arith) (own i))
-    (λ p. widen i (i + suc n) (omega arith) (omega arith) (first-within test n (i + 1) own))
+    (λ p. widen i (i + suc n) (omega arith) (omega arith) (first-within most test n (i + 1) own))
 
-refused-here : (i : ℕ) (fault : Fault) → Within i (i + 1) (Refused fault i)
-refused-here i fault = refuses fault i (omega arith) (omega arith)
+-- 9 is the largest number of a table that holds its rows, and 22 that of any
+module _ (rows : List ℕ) (count most : ℕ) (nine : 9 ≤ most) (unheld : holds rows count ≡ false → 22 ≤ most) where
+  refused-here : (i : ℕ) (fault : Fault) → numberOf fault ≤ 9 → Within i (i + 1) most (Refused fault i)
+  refused-here i fault h = refuses fault i (omega arith) (omega arith) (omega arith)
 
-module _ (rows : List ℕ) (count : ℕ) where
-  ends-own : (i : ℕ) → Within i (i + 1) (endsAt rows count i)
+  ends-own : (i : ℕ) → Within i (i + 1) most (endsAt rows count i)
   unfolding endsAt
   ends-own i =
-      choice (endFits count i (endAt rows i) (enclosing rows i)) (λ t. choice (leb (depthAt rows i) 100) (λ t. passes) (refused-here i TooDeep)) (refused-here i WrongEnd)
+      choice (endFits count i (endAt rows i) (enclosing rows i))
+      (λ t. choice (leb (depthAt rows i) 100) (λ t. passes) (λ t. refused-here i TooDeep (omega arith)))
+      (λ t. refused-here i WrongEnd (omega arith))
 
-  children-own : (i : ℕ) → Within i (i + 1) (childrenAt rows i)
+  children-own : (i : ℕ) → Within i (i + 1) most (childrenAt rows i)
   unfolding childrenAt
-  children-own i = choice (isKind (kindAt rows i) && childrenFit rows i) (λ t. passes) (refused-here i WrongChildren)
+  children-own i = choice (isKind (kindAt rows i) && childrenFit rows i) (λ t. passes) (λ t. refused-here i WrongChildren (omega arith))
 
-  root-within : Within 0 2000 (rootAt rows)
+  root-within : Within 0 2000 most (rootAt rows)
   unfolding rootAt
-  root-within = choice (inClass S (kindAt rows 0)) (λ t. passes) (refuses WrongChildren 0 (omega arith) (omega arith))
+  root-within = choice (inClass S (kindAt rows 0)) (λ t. passes) (λ t. refuses WrongChildren 0 (omega arith) (omega arith) nine)
 
-  ends-within : Within 0 2000 (endsOf rows count)
+  ends-within : Within 0 2000 most (endsOf rows count)
   unfolding whenHeld
   ends-within =
       choice (holds rows count)
-      (λ t. widen 0 2000 (omega arith) (omega (arith, held-facts rows count t .few)) (first-within (endsAt rows count) count 0 ends-own))
-      (refuses NotHeld 0 (omega arith) (omega arith))
+      (λ t. widen 0 2000 (omega arith) (omega (arith, held-facts rows count t .few)) (first-within most (endsAt rows count) count 0 ends-own))
+      (λ t. refuses NotHeld 0 (omega arith) (omega arith) (unheld t))
 
-  children-within : Within 0 2000 (childrenOf rows count)
+  children-within : Within 0 2000 most (childrenOf rows count)
   children-within =
       both (endsOf rows count) ends-within
       (λ p. both (rootAt rows) root-within
-      (λ q. widen 0 2000 (omega arith) (omega (arith, passed-held rows count _ p .few)) (first-within (childrenAt rows) count 0 children-own)))
+      (λ q. widen 0 2000 (omega arith) (omega (arith, passed-held rows count _ p .few)) (first-within most (childrenAt rows) count 0 children-own)))
 
-  -- a refusal of the check of children is at one of at most 2,000 rows, and at row 0 where the table does not hold its rows
-  pub children-row : (r : Checked) (fault : Fault) (row : ℕ) → r ≡ childrenOf rows count → r ≡ Refused fault row → row ≤ 2000
-  children-row r fault row q e = omega (arith, children-within .row fault row (sym q ∙ e) .1)
+-- a refusal of the check of children is at one of at most 2,000 rows, and at row 0 where the table does not hold its rows
+pub children-row : (rows : List ℕ) (count : ℕ) (r : Checked) (fault : Fault) (row : ℕ) → r ≡ childrenOf rows count → r ≡ Refused fault row → row ≤ 2000
+children-row rows count r fault row q e = omega (arith, children-within rows count 22 (omega arith) (λ t. omega arith) .row fault row (sym q ∙ e) .1)
+
+-- of a table that holds its rows it is 7, 8 or 9
+pub children-number : (rows : List ℕ) (count : ℕ) → Held rows count → (fault : Fault) (row : ℕ) → childrenOf rows count ≡ Refused fault row → numberOf fault ≤ 9
+children-number rows count h = children-within rows count 9 (omega arith) (λ t. true-not-false (sym (holds-true rows count h) ∙ t)) .number

@@ -16,7 +16,8 @@ use Rattle.reads.specs.NoRef.{stmtNoRef}
 use Rattle.reads.specs.Iffs.{every}
 use Rattle.paths.proofs.Strength.{Row, row, x, y, w, ident, lident, callRow, X, W, lit, absent, and!, or!, plus, paren, event}
 use Rattle.stmt_paths.proofs.Strength.{b, j, marks, timed, assign, assignLater, delay, on, intra, toX, toY, writes, reads, block, decl, ifElse, returns, caseOf, arm, default, for, while, repeat, forever, disable, task, delayed, awaits, wait, null}
-use Rattle.expr_effect.specs.Effect.{unaryForm, binaryForm, callForm, exprEffectAt}
+use Rattle.effect_rules.specs.Rules.{unaryForm, binaryForm, callForm}
+use Rattle.expr_effect.specs.Effect.{exprEffectAt}
 use Rattle.expr_effect.specs.Law.{factsAt}
 use Rattle.loops.specs.Fitting.{fitHere, fitAt, fitting}
 use Rattle.loops.specs.Escape.{cannotEscapeAt}

@@ -11,9 +11,9 @@ use Rattle.kinds.specs.declared.StmtClass.the-variants.{Absent, Match, Default,
 use Rattle.kinds.specs.Named.{stmtClass, taskEffect}
 use Rattle.reads.specs.PathRows.{isLoopJump}
 use Rattle.reads.specs.NoRef.{stmtNoRef}
-use Rattle.expr_effect.specs.declared.ExprDa.{ExprDa}
-use Rattle.expr_effect.specs.declared.ExprDa.the-variants.{Clean, Writes, Reads}
-use Rattle.expr_effect.specs.Effect.{writesWhen}
+use Rattle.effect_rules.specs.declared.ExprDa.{ExprDa}
+use Rattle.effect_rules.specs.declared.ExprDa.the-variants.{Clean, Writes, Reads}
+use Rattle.effect_rules.specs.Rules.{writesWhen}
 use Rattle.expr_effect.specs.Law.{ExprFacts, exprFacts, noFacts}
 use Rattle.loops.specs.Escape.{cannotEscapes}
 use Rattle.loops.specs.Time.{advancesAt, advances}
@@ -114,13 +114,21 @@ noWalk = record { walk = λ a. Ok (Falls a); labels = []; isDefault = false; isA
 abbrev pub assigned : Bool → State → ℕ → ℕ → DaResult
 assigned whole a lo hi = cond whole (Ok (Falls written)) (cond (isWritten a) (Ok (Falls a)) (giveUp 4 lo hi))
 
--- S::Blocking: delay, event, right side, target; "Claimed only when the LVALUE cannot itself reference `name`"
+-- S::Blocking from its right side on: "Claimed only when the LVALUE cannot itself reference `name`"
+abbrev pub fromRight : ExprFacts → ExprFacts → ℕ → ℕ → State → DaResult
+fromRight target right lo hi a =
+    unlessRead right a
+    (assigned (target .plain) (gains (not (target .refers) && exprOutWrites right) a) lo hi)
+
+-- from its event on: "the event control on this assignment reads it before any write on this path"
+abbrev pub fromEvent : ExprFacts → ExprFacts → ExprFacts → ℕ → ℕ → State → DaResult
+fromEvent event target right lo hi a =
+    cond (not (isWritten a) && event .refers) (giveUp 3 lo hi)
+    (fromRight target right lo hi a)
+
+-- S::Blocking: delay, event, right side, target
 abbrev pub blocking : StmtRow → List ExprFacts → ExprFacts → ExprFacts → ExprFacts → State → DaResult
-blocking r delays event target right a =
-    unlessOneRead delays a
-    (cond (not (isWritten a) && event .refers) (giveUp 3 (r .lo) (r .hi))
-    (unlessRead right a
-    (assigned (target .plain) (gains (not (target .refers) && exprOutWrites right) a) (r .lo) (r .hi))))
+blocking r delays event target right a = unlessOneRead delays a (fromEvent event target right (r .lo) (r .hi) a)
 
 -- S::NonBlocking: "the same hazard as suspending", then the right side
 abbrev pub nonblocking : DaCtx → StmtRow → ExprFacts → State → DaResult

@@ -9,7 +9,7 @@
 // statement, what stmt_no_ref says, and where it is an expression or a target, its effect and whether the local is written once its
 // value is true, and false. Rows whose ends or depth do not pass the check are refused: nobody may ask about them.
 use checks::Checked;
-use expr_effect::ExprDa;
+use effect_rules::ExprDa;
 use libc::STDIN_FILENO;
 use libc::STDOUT_FILENO;
 use reads::Iff;

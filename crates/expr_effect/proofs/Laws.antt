@@ -25,13 +25,14 @@ use Rattle.paths.specs.Evaluates.{Evaluates}
 use Rattle.paths.proofs.Rules.{rule-skip, rule-write, rule-seq}
 use Rattle.paths.proofs.Evaluating.{evaluates-forget, evaluates-free, evaluates-asked, chain, chain-triple, conditional-triple}
 use Rattle.paths.proofs.Built.{calm-row, quiet-row, silent-row, silent-none}
-use Rattle.expr_effect.specs.declared.ExprDa.{ExprDa}
-use Rattle.expr_effect.specs.declared.ExprDa.the-variants.{Clean, Writes, Reads}
-use Rattle.expr_effect.specs.declared.ExprEffect.{ExprEffect}
-use Rattle.expr_effect.specs.declared.RowEffect.{RowEffect}
-use Rattle.expr_effect.specs.declared.Form.{Form}
-use Rattle.expr_effect.specs.declared.Form.the-variants.{Inner, LogNot, Operand, LogAnd, LogOr, Operands, Arms, CallWrites, Vetted}
-use Rattle.expr_effect.specs.Effect.{unaryForm, binaryForm, callForm, formOf, join, shortCircuit, oneArm, afterCond, writesWhen, effectOf, operandsWrite, selfGuarded, combined, guarded, noEffect, noRowEffect, exprEffectAt, exprEffects, exprEffectOf, exprDa, unguarded}
+use Rattle.effect_rules.specs.declared.ExprDa.{ExprDa}
+use Rattle.effect_rules.specs.declared.ExprDa.the-variants.{Clean, Writes, Reads}
+use Rattle.effect_rules.specs.declared.ExprEffect.{ExprEffect}
+use Rattle.effect_rules.specs.declared.RowEffect.{RowEffect}
+use Rattle.effect_rules.specs.declared.Form.{Form}
+use Rattle.effect_rules.specs.declared.Form.the-variants.{Inner, LogNot, Operand, LogAnd, LogOr, Operands, Arms, CallWrites, Vetted}
+use Rattle.effect_rules.specs.Rules.{unaryForm, binaryForm, callForm, formOf, join, shortCircuit, oneArm, afterCond, writesWhen, effectOf, operandsWrite, selfGuarded, combined, guarded, noEffect, noRowEffect}
+use Rattle.expr_effect.specs.Effect.{exprEffectAt, exprEffects, exprEffectOf, exprDa, unguarded}
 use Rattle.expr_effect.proofs.Operands.{unguarded-none, effect-first}
 use Rattle.expr_effect.specs.Law.{EffectLaw, Meets, WhenLaw, isPlain, factsAt, exprFacts, noFacts, NoneRefer, none-left, and-more, ExprLaw, EffectTold, DaTold}
 

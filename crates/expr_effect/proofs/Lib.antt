@@ -1,5 +1,5 @@
-pub mod Steps
 pub mod Operands
 pub mod Laws
 pub mod Rust
 pub mod Meaning
+pub mod Facts

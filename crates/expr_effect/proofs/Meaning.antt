@@ -19,9 +19,10 @@ use Rattle.paths.specs.Evaluates.{Evaluates}
 use Rattle.paths.proofs.Evaluating.{evaluates-forget}
 use Rattle.paths.specs.Written.{Written}
 use Rattle.paths.proofs.Meaning.{read-is-written, fall-is-written}
-use Rattle.expr_effect.specs.declared.ExprDa.{ExprDa}
-use Rattle.expr_effect.specs.declared.ExprDa.the-variants.{Clean, Writes, Reads}
-use Rattle.expr_effect.specs.Effect.{exprEffectOf, exprDa, exprWritesWhen, writesWhen}
+use Rattle.effect_rules.specs.declared.ExprDa.{ExprDa}
+use Rattle.effect_rules.specs.declared.ExprDa.the-variants.{Clean, Writes, Reads}
+use Rattle.effect_rules.specs.Rules.{writesWhen}
+use Rattle.expr_effect.specs.Effect.{exprEffectOf, exprDa, exprWritesWhen}
 use Rattle.expr_effect.specs.Law.{EffectLaw, WhenLaw, ExprLaw, exprFacts, noFacts}
 use Rattle.expr_effect.proofs.Laws.{facts-effects, facts-refers, facts-plain, effect-told}
 

@@ -12,13 +12,14 @@ use Rattle.kinds.proofs.Below.{true-not-false}
 use Rattle.reads.specs.declared.Iff.the-variants.{Skipped}
 use Rattle.reads.specs.Mentions.{refers}
 use Rattle.reads.specs.NoRef.{exprNoRef}
-use Rattle.expr_effect.specs.declared.ExprEffect.{ExprEffect}
-use Rattle.expr_effect.specs.declared.RowEffect.{RowEffect}
+use Rattle.effect_rules.specs.declared.ExprEffect.{ExprEffect}
+use Rattle.effect_rules.specs.declared.RowEffect.{RowEffect}
 use Rattle.expr_effect.specs.declared.Places.{Places}
 use Rattle.expr_effect.specs.Places.{PlacesTold}
-use Rattle.expr_effect.specs.declared.Form.{Form}
-use Rattle.expr_effect.specs.declared.Form.the-variants.{Inner, LogNot, Operand, LogAnd, LogOr, Operands, Arms, CallWrites, Vetted}
-use Rattle.expr_effect.specs.Effect.{combined, guarded, isWhole, isVetted, noEffect, noRowEffect, exprEffectAt, exprEffectOf, unguarded}
+use Rattle.effect_rules.specs.declared.Form.{Form}
+use Rattle.effect_rules.specs.declared.Form.the-variants.{Inner, LogNot, Operand, LogAnd, LogOr, Operands, Arms, CallWrites, Vetted}
+use Rattle.effect_rules.specs.Rules.{combined, guarded, isWhole, isVetted, noEffect, noRowEffect}
+use Rattle.expr_effect.specs.Effect.{exprEffectAt, exprEffectOf, unguarded}
 
 -- where the reference test does not decide, its answer does not matter
 unvetted : (m : Form) (n p : Bool) (a b c : ExprEffect) → isVetted m ≡ false → combined m n a b c ≡ combined m p a b c

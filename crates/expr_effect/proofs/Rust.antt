@@ -12,11 +12,12 @@ use Rattle.kinds.specs.Named.{exprClass}
 use Rattle.reads.specs.declared.Iff.the-variants.{Skipped}
 use Rattle.reads.specs.Mentions.{refers}
 use Rattle.reads.specs.NoRef.{exprNoRef}
-use Rattle.expr_effect.specs.declared.ExprDa.the-variants.{Clean, Writes, Reads}
-use Rattle.expr_effect.specs.declared.ExprEffect.{ExprEffect}
-use Rattle.expr_effect.specs.declared.Form.{Form}
-use Rattle.expr_effect.specs.declared.Form.the-variants.{Inner, LogNot, Operand, LogAnd, LogOr, Operands, Arms, CallWrites, Vetted}
-use Rattle.expr_effect.specs.Effect.{unaryForm, binaryForm, callForm, formOf, join, shortCircuit, oneArm, afterCond, effectOf, operandsWrite, selfGuarded, vettedEffect, exprEffectAt, exprEffectOf, exprDa, exprWritesWhen}
+use Rattle.effect_rules.specs.declared.ExprDa.the-variants.{Clean, Writes, Reads}
+use Rattle.effect_rules.specs.declared.ExprEffect.{ExprEffect}
+use Rattle.effect_rules.specs.declared.Form.{Form}
+use Rattle.effect_rules.specs.declared.Form.the-variants.{Inner, LogNot, Operand, LogAnd, LogOr, Operands, Arms, CallWrites, Vetted}
+use Rattle.effect_rules.specs.Rules.{unaryForm, binaryForm, callForm, formOf, join, shortCircuit, oneArm, afterCond, effectOf, operandsWrite, selfGuarded, vettedEffect}
+use Rattle.expr_effect.specs.Effect.{exprEffectAt, exprEffectOf, exprDa, exprWritesWhen}
 
 vetted-is : (b : Bool) → vettedEffect b ≡ cond (not b) Clean Reads
 vetted-is true = refl

@@ -19,11 +19,12 @@ use Rattle.paths.specs.Triples.{Triple, at, never}
 use Rattle.paths.specs.Evaluation.{Evaluation, Truth, is-true, is-false, noEvaluation, evaluations}
 use Rattle.paths.specs.Evaluates.{Evaluates}
 use Rattle.paths.specs.Silence.{ReadsNothing}
-use Rattle.expr_effect.specs.declared.ExprDa.{ExprDa}
-use Rattle.expr_effect.specs.declared.ExprDa.the-variants.{Clean, Writes, Reads}
-use Rattle.expr_effect.specs.declared.ExprEffect.{ExprEffect}
-use Rattle.expr_effect.specs.declared.RowEffect.{RowEffect}
-use Rattle.expr_effect.specs.Effect.{writesWhen, guarded, noEffect, exprEffectAt, exprEffects, exprEffectOf, exprDa}
+use Rattle.effect_rules.specs.declared.ExprDa.{ExprDa}
+use Rattle.effect_rules.specs.declared.ExprDa.the-variants.{Clean, Writes, Reads}
+use Rattle.effect_rules.specs.declared.ExprEffect.{ExprEffect}
+use Rattle.effect_rules.specs.declared.RowEffect.{RowEffect}
+use Rattle.effect_rules.specs.Rules.{writesWhen, guarded, noEffect}
+use Rattle.expr_effect.specs.Effect.{exprEffectAt, exprEffects, exprEffectOf, exprDa}
 
 -- Clean: no read while the local is unwritten. (The Rust's comment says no read at all, but `(c && w(x)) && x` is Clean there
 -- too.) Writes: "EVERY evaluation of this expression writes `name` whole, and no read of `name` can precede that write". Reads

@@ -5,7 +5,7 @@ use mathlib.Core.List.{List}
 use Rattle.table.specs.Rows.{kindAt, sideAt, endAt, nextOf, Nested}
 use Rattle.kinds.specs.Named.{exprClass}
 use Rattle.expr_effect.specs.declared.Places.{Places}
-use Rattle.expr_effect.specs.Effect.{formOf}
+use Rattle.effect_rules.specs.Rules.{formOf}
 
 -- the places, and that the ranges from them to the row's end nest and lie after row i
 pub record PlacesTold (rows : List ℕ) (i to : ℕ) (r : Places) : Type 0 where

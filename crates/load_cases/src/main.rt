@@ -13,8 +13,8 @@
 // is the end of a childless row under row 0; elsewhere that number is 0.
 use libc::STDIN_FILENO;
 use libc::STDOUT_FILENO;
+use names::Named;
 use sheet::Loaded;
-use sheet::Named;
 use sheet::Refusal;
 use sheet_record::Record;
 ghost use Prim.Native.Nat.{_≤_, _<_};
@@ -123,7 +123,7 @@ fn say_tables(rows: &[u32], names: &[u32]) {
 fn say_name(bytes: &[u8], record: Record, names: &[u32], i: usize) {
     say(b" ");
     number(i);
-    let place = sheet::name_place(bytes, record, names, i);
+    let place = names::name_place(bytes, record, names, i);
     match place {
         Named::At(offset, length) => say(b"="),
         Named::Refused(refusal) => {
@@ -131,7 +131,7 @@ fn say_name(bytes: &[u8], record: Record, names: &[u32], i: usize) {
             refusal_number(refusal);
         }
     }
-    say(sheet::name(bytes, record, names, i));
+    say(names::name(bytes, record, names, i));
 }
 
 // Whether a name number is one of the first three, the last or the one after it.
@@ -234,7 +234,7 @@ fn fill(numbers: &mut [u32], text: &[u8]) -> usize {
 }
 
 fn name_of(bytes: &[u8], record: Record, names: &[u32], i: usize) {
-    let place = sheet::name_place(bytes, record, names, i);
+    let place = names::name_place(bytes, record, names, i);
     match place {
         Named::At(offset, length) => {
             say(b": at ");
@@ -248,7 +248,7 @@ fn name_of(bytes: &[u8], record: Record, names: &[u32], i: usize) {
         }
     }
     say(b" ");
-    say(sheet::name(bytes, record, names, i));
+    say(names::name(bytes, record, names, i));
 }
 
 fn name_case(text: &[u8]) {

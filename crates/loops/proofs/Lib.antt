@@ -6,3 +6,4 @@ pub mod TimeArms
 pub mod Trees
 pub mod Staying
 pub mod Answers
+pub mod Alone

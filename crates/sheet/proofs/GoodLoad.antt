@@ -1,12 +1,12 @@
--- What a good load tells: it passes every check that asking makes, its names ascend and are found again, its rows are a tree.
-use Prim.Native.Nat.{ℕ, _+_, _-_, _*_, _≤_, _<_}
+-- What a good load tells: it passes every check that asking makes, its names ascend, its rows are a tree.
+use Prim.Native.Nat.{ℕ, zero, suc, _+_, _-_, _*_, _≤_, _<_}
 use mathlib.Core.Path.{_≡_, refl, sym, ap, _∙_}
 use mathlib.Core.Bool.{Bool, true, false, cond, _||_, and-eq-true-iff}
-use mathlib.Core.List.{List, []}
+use mathlib.Core.List.{List, [], _∷_, _++_}
 use native.Mathlib.Omega.{arith}
-use lib.Dec.{leb}
-use lib.ListN.{length, take, drop, getD, replicate, length-append, length-replicate, List·getD-append}
-use borrow.Author.Tests.{leb-true, le-leb, lt-ltb}
+use lib.Dec.{leb, ltb}
+use lib.ListN.{length, getD, replicate, length-append, length-replicate, List·getD-append, List·getD-eq-default}
+use borrow.Author.Tests.{leb-true, le-leb, ltb-true, ltb-false, lt-ltb}
 use Rattle.kinds.specs.Kinds.{bytes}
 use Rattle.table.specs.Rows.{kindAt, tree, Nested}
 use Rattle.table.proofs.Same.{tree-front}
@@ -16,10 +16,10 @@ use Rattle.checks.specs.Checks.{fieldsOf, endsOf, childrenOf}
 use Rattle.checks.proofs.Same.{children-same}
 use Rattle.checks.proofs.Rows.{both-pass}
 use Rattle.checks.proofs.Passed.{fields-pass, children-passed}
-use Rattle.text.specs.Fields.{field, startsWith, below}
+use Rattle.text.specs.Fields.{startsWith, below}
 use Rattle.lines.specs.Lines.{jumpMark}
 use Rattle.sheet_record.specs.declared.Record.{Record}
-use Rattle.sheet_record.specs.Records.{recordFits, offsetAt, sizeAt, textAt}
+use Rattle.sheet_record.specs.Records.{recordFits, markAt, textAt}
 use Rattle.sections.proofs.ReadLaws.{NameEntry, names-length, names-entry, names-ascend, rows-length, rows-kind, rows-side, entry-append, text-append}
 use Rattle.sheet.specs.declared.Refusal.{Refusal}
 use Rattle.sheet.specs.declared.Refusal.the-variants.{TooLong, Line, NoRoom}
@@ -27,7 +27,6 @@ use Rattle.sheet.specs.declared.Loaded.{Loaded}
 use Rattle.sheet.specs.declared.Loaded.the-variants.{Done, Refused}
 use Rattle.sheet.specs.Load.{Parsed, parsed, wrong, linesOf, Result, refuse, tableOf, hasRoom, afterChecks, checkedAnswer, withTables, finishOf, afterParse, loadOf}
 use Rattle.sheet.specs.Meaning.{Asked, LoadMeans}
-use Rattle.sheet.specs.NameText.{namePlace, partAt, textOf}
 use Rattle.sheet.proofs.Reading.{RecordTold, BeforeParts, before-parts}
 use Rattle.sheet.proofs.Finishing.{never, answered}
 use Rattle.sheet.proofs.Loading.{LinesTold, lines-told, record-told, refused-load}
@@ -90,13 +89,28 @@ module _ (s : List ℕ) (rowRoom nameRoom : ℕ) (r : Record) where
   good-load e = good-length (leb (length s) 65536) refl e
 
 -- numbers in front of a table
-table-length : (room : ℕ) (numbers : List ℕ) → length numbers ≤ room → length (tableOf room numbers) ≡ room
+pub table-length : (room : ℕ) (numbers : List ℕ) → length numbers ≤ room → length (tableOf room numbers) ≡ room
 unfolding tableOf
 table-length room numbers h = length-append numbers (replicate (room - length numbers) 0) ∙ omega (arith, length-replicate {A = ℕ} (room - length numbers) 0)
 
 table-front : (room : ℕ) (numbers : List ℕ) (i : ℕ) → i < length numbers → getD (tableOf room numbers) i 0 ≡ getD numbers i 0
 unfolding tableOf
 table-front room numbers i h = List·getD-append numbers (replicate (room - length numbers) 0) 0 i h
+
+-- past them it reads zeros, as the numbers themselves do
+past-zeros : (n i : ℕ) → getD (replicate {A = ℕ} n 0) i 0 ≡ 0
+past-zeros zero i = refl
+past-zeros (suc n) zero = refl
+past-zeros (suc n) (suc i) = past-zeros n i
+
+any-place : (numbers : List ℕ) (n i : ℕ) → getD (numbers ++ replicate n 0) i 0 ≡ getD numbers i 0
+any-place [] n i = past-zeros n i
+any-place (x ∷ xs) n zero = refl
+any-place (x ∷ xs) n (suc i) = any-place xs n i
+
+table-reads : (room : ℕ) (numbers : List ℕ) (i : ℕ) → getD (tableOf room numbers) i 0 ≡ getD numbers i 0
+unfolding tableOf
+table-reads room numbers i = any-place numbers (room - length numbers) i
 
 -- a mark is 0 or 1
 mark-small : (name : List ℕ) → jumpMark name ≤ 1
@@ -114,10 +128,6 @@ record-right r t =
     let below : r .local < r .names = omega (arith, t .names, f .local) in
     rw
     (le-leb 1 (r .names) (t .names .least), le-leb (r .names) 500 (t .names .most), le-leb 1 (r .rows) (f .rows .least), le-leb (r .rows) 2000 (f .rows .most), lt-ltb (r .local) (r .names) below, le-leb (r .start) 1 (f .start .most), le-leb (r .sole) 1 (f .sole .most))
-
-part-within : (s : List ℕ) (at size : ℕ) → at + size ≤ length s → partAt s at size ≡ take size (drop at s)
-unfolding partAt
-part-within s at size h = rw (le-leb (at + size) (length s) h)
 
 -- of its tables
 module _ (s : List ℕ) (rowRoom nameRoom : ℕ) (r : Record) (g : GoodLoad s rowRoom nameRoom r) where
@@ -175,19 +185,23 @@ module _ (s : List ℕ) (rowRoom nameRoom : ℕ) (r : Record) (g : GoodLoad s ro
         children = g .checked;
       }
 
+  -- every mark is that of the name's text; a number that no name has stands for the empty text
+  marks : (i : ℕ) → markAt (tableOf nameRoom (g .nameNumbers)) i ≡ jumpMark (textAt s (g .nameNumbers) i)
+  unfolding jumpMark startsWith
+  marks i = table-reads nameRoom (g .nameNumbers) (3 * i + 2) ∙ go (ltb i (r .names)) refl
+    where
+      go : (b : Bool) → ltb i (r .names) ≡ b → markAt (g .nameNumbers) i ≡ jumpMark (textAt s (g .nameNumbers) i)
+      go true q = names-entry s (r .names) [] (parts .names-at) 3 (g .nameNumbers) (parts .facts-at) (parts .names) i (ltb-true i (r .names) q) .mark
+      go false q =
+          let h : r .names ≤ i = ltb-false i (r .names) q in
+          rw (List·getD-eq-default (g .nameNumbers) 0 {n = 3 * i + 2} (omega (arith, name-count)), List·getD-eq-default (g .nameNumbers) 0 {n = 3 * i + 1} (omega (arith, name-count)))
+
   ascends : (i : ℕ) → i + 1 < r .names → below (textAt s (tableOf nameRoom (g .nameNumbers)) i) (textAt s (tableOf nameRoom (g .nameNumbers)) (i + 1)) ≡ true
   unfolding tableOf
   ascends i h =
       rw
       (text-append s (g .nameNumbers) (replicate (nameRoom - length (g .nameNumbers)) 0) i (r .names) name-count (omega arith), text-append s (g .nameNumbers) (replicate (nameRoom - length (g .nameNumbers)) 0) (i + 1) (r .names) name-count h)
       (names-ascend s (r .names) [] (parts .names-at) 3 (g .nameNumbers) (parts .facts-at) (parts .names) i h)
-
-  found : (i : ℕ) → i < r .names → textOf s r (tableOf nameRoom (g .nameNumbers)) i ≡ textAt s (tableOf nameRoom (g .nameNumbers)) i
-  unfolding textOf namePlace
-  found i h =
-      let table = tableOf nameRoom (g .nameNumbers) in
-      let within = le-leb (offsetAt table i + sizeAt table i) (length s) (entry i h .within) in
-      rw (asked .fits, le-leb (3 * r .names) (length table) (asked .names-held), lt-ltb i (r .names) h, within) (part-within s (offsetAt table i) (sizeAt table i) (entry i h .within))
 
   nested : Nested (tableOf rowRoom (g .rowNumbers)) 0 (r .rows)
   nested = children-passed (tableOf rowRoom (g .rowNumbers)) (r .rows) C.Passed (sym (g .checked)) refl .ends .nested
@@ -219,10 +233,6 @@ module _ (s : List ℕ) (rowRoom nameRoom : ℕ) (r : Record) (e : loadOf s rowR
   pub load-ascends : (i : ℕ) → i + 1 < r .names → below (textAt s (loadOf s rowRoom nameRoom .names) i) (textAt s (loadOf s rowRoom nameRoom .names) (i + 1)) ≡ true
   load-ascends i h = rw name-table (ascends s rowRoom nameRoom r good i h)
 
-  -- the call of a name gives the text of its line back
-  pub load-name : (i : ℕ) → i < r .names → textOf s r (loadOf s rowRoom nameRoom .names) i ≡ field 10 s (offsetAt (loadOf s rowRoom nameRoom .names) i)
-  load-name i h = rw name-table (found s rowRoom nameRoom r good i h ∙ entry s rowRoom nameRoom r good i h .line)
-
   -- its rows nest, which is the premise of every law of their tree; and the tree is that of the sheet's row lines alone
   pub load-nested : Nested (loadOf s rowRoom nameRoom .rows) 0 (r .rows)
   load-nested = rw row-table (nested s rowRoom nameRoom r good)
@@ -232,6 +242,13 @@ module _ (s : List ℕ) (rowRoom nameRoom : ℕ) (r : Record) (e : loadOf s rowR
     where
       same-rows : parsed r (good .nameNumbers) (good .rowNumbers) ≡ parsed r names rows → good .rowNumbers ≡ rows
       same-rows p = cc
+
+  -- a name is marked exactly where its line's text begins as a loop jump's does
+  pub load-marks : (names rows : List ℕ) → linesOf s ≡ parsed r names rows → (i : ℕ) → markAt (loadOf s rowRoom nameRoom .names) i ≡ jumpMark (textAt s names i)
+  load-marks names rows l i = rw name-table (marks s rowRoom nameRoom r good i ∙ ap (λ (x : List ℕ). jumpMark (textAt s x i)) (same-names (sym (good .lines) ∙ l)))
+    where
+      same-names : parsed r (good .nameNumbers) (good .rowNumbers) ≡ parsed r names rows → good .nameNumbers ≡ names
+      same-names p = cc
 
 -- the answer for good lines is the same in all tables that have room for them
 module _ (s : List ℕ) (r : Record) (names rows : List ℕ) (l : linesOf s ≡ parsed r names rows) where

@@ -2,6 +2,6 @@ pub mod Zeros
 pub mod Reading
 pub mod Finishing
 pub mod Loading
-pub mod PlaceLaws
 pub mod GoodLoad
+pub mod Refusals
 pub mod Sample

@@ -18,13 +18,13 @@ use Rattle.sheet.specs.declared.Loaded.the-variants.{Done}
 use Rattle.sheet.specs.Load.{refusalOf, placeOf, beforeRows, linesOf, refuse, tableOf, hasRoom, checkedAnswer, finishOf, loadOf}
 
 -- a line, ended by byte 10
-abbrev line : String → List ℕ
+abbrev pub line : String → List ℕ
 line s = bytes s ++ (10 ∷ [])
 
-abbrev head : List ℕ
+abbrev pub head : List ℕ
 head = line "sheet=1" ++ line "names=2" ++ line "name=x" ++ line "name=y" ++ line "local=0" ++ line "start=0" ++ line "sole=1"
 
-abbrev listing : List ℕ
+abbrev pub listing : List ℕ
 listing =
     head ++ line "rows=9" ++ line "row=blocking 0 0 6 9" ++ line "row=none 0 0 0 2" ++ line "row=none 0 0 0 3" ++ line "row=lident 0 0 1 6"
     ++ line "row=path 0 0 1 6" ++ line "row=seg 1 0 1 6" ++ line "row=ident 0 4 5 9" ++ line "row=path 0 4 5 9" ++ line "row=seg 0 4 5 9"

@@ -1,4 +1,3 @@
 pub mod Load
 pub mod Steps
-pub mod NameText
 pub mod Meaning

@@ -16,7 +16,7 @@ use Rattle.header.specs.Header.{headOf, factsFrom}
 use Rattle.sections.specs.Sections.{Lines, read, refused, namesFrom, rowsFrom}
 use Rattle.sheet_record.specs.declared.Record.{Record}
 use Rattle.sheet.specs.declared.Refusal.{Refusal}
-use Rattle.sheet.specs.declared.Refusal.the-variants.{TooLong, Line, NoRoom, Rows, WrongRecord, NoName}
+use Rattle.sheet.specs.declared.Refusal.the-variants.{TooLong, Line, NoRoom, Rows, WrongRecord, WrongTable, NoName}
 use Rattle.sheet.specs.declared.Loaded.{Loaded}
 use Rattle.sheet.specs.declared.Loaded.the-variants.{Done, Refused}
 use Rattle.header.specs.declared.Head.{Head}
@@ -31,6 +31,7 @@ refusalNumber (Line fault) = faultNumber fault
 refusalNumber NoRoom = 21
 refusalNumber (Rows fault) = numberOf fault
 refusalNumber WrongRecord = 22
+refusalNumber WrongTable = 23
 refusalNumber NoName = 24
 
 -- what each answer is in numbers: the refusal's number, 0 for a good load; the place, "a line number from 1, or 0"; and the

@@ -1,4 +1,4 @@
-// Load and name: from the bytes of a sheet to two lent tables and a record, and from these to a name's text.
+// Loading: from the bytes of a sheet to two lent tables and a record.
 use checks::Checked;
 use header::Facts;
 use header::Head;
@@ -13,15 +13,15 @@ ghost use Rattle.sections.specs.Filling.{Short};
 ghost use Rattle.sheet.specs.Load.{refusalNumber, refusalOf, placeOf, recordOf, beforeRows, lineOf, linesOf, checkedAnswer, loadOf};
 ghost use Rattle.sheet.specs.Steps.{factsOf, answerOf, NamesFilled, BothFilled, Room, GoodFilled, finishFronts, isRefused};
 ghost use Rattle.sheet.specs.Meaning.{LoadMeans};
-ghost use Rattle.sheet.specs.NameText.{namePlace, partAt, textOf};
 
-// Why a load or a name is refused.
+// Why a call is refused.
 pub enum Refusal {
     TooLong,
     Line(Fault),
     NoRoom,
     Rows(checks::Fault),
     WrongRecord,
+    WrongTable,
     NoName,
 }
 
@@ -35,6 +35,7 @@ pub fn number_of(refusal: Refusal) -> u32
         Refusal::NoRoom => 21,
         Refusal::Rows(fault) => checks::number_of(fault),
         Refusal::WrongRecord => 22,
+        Refusal::WrongTable => 23,
         Refusal::NoName => 24,
     }
 }
@@ -236,58 +237,4 @@ pub fn load(sheet: &[u8], rows: &mut [u32], names: &mut [u32]) -> Loaded
     ensures means { λ r. ⌜ LoadMeans r (now (rows .exit)) (now (names .exit)) ⌝ }
 {
     load_tables(sheet, rows, names)
-}
-
-// Where a name stands in the sheet, as offset and length, or the refusal.
-pub enum Named {
-    At(usize, usize),
-    Refused(Refusal),
-}
-
-// The place of a name in the bytes that the sheet was loaded from.
-pub fn name_place(sheet: &[u8], record: Record, names: &[u32], number: usize) -> Named
-    ensures { λ r. ⌜ r ≡ namePlace (now (sheet .entry)) «record» (now (names .entry)) number ⌝ }
-{
-    if !sheet_record::record_fits(record) {
-        return Named::Refused(Refusal::WrongRecord);
-    }
-    if !sheet_record::names_held(record, names.len()) {
-        return Named::Refused(Refusal::WrongRecord);
-    }
-    if record.names <= number {
-        return Named::Refused(Refusal::NoName);
-    }
-    let offset = sheet_record::offset_at(names, number);
-    let size = sheet_record::size_at(names, number);
-    if sheet.len() < offset {
-        return Named::Refused(Refusal::NoName);
-    }
-    if sheet.len() - offset < size {
-        return Named::Refused(Refusal::NoName);
-    }
-    Named::At(offset, size)
-}
-
-fn part(s: &[u8], at: usize, size: usize) -> &[u8]
-    ensures { λ r. ⌜ now r ≡ partAt (now (s .entry)) at size ⌝ }
-{
-    if s.len() < at {
-        return &s[0..0];
-    }
-    if s.len() - at < size {
-        return &s[0..0];
-    }
-    let end = at + size;
-    &s[at..end]
-}
-
-// The text of a name, a part of the sheet lent; the empty part where `name_place` refuses.
-pub fn name<'a, 'b>(sheet: &'a [u8], record: Record, names: &'b [u32], number: usize) -> &'a [u8]
-    ensures { λ r. ⌜ now r ≡ textOf (now (sheet .entry)) «record» (now (names .entry)) number ⌝ }
-{
-    let place = name_place(sheet, record, names, number);
-    match place {
-        Named::Refused(refusal) => &sheet[0..0],
-        Named::At(offset, size) => part(sheet, offset, size),
-    }
 }

@@ -1,8 +1,8 @@
 -- The ranges of a record's numbers, test by test.
 use Prim.Native.Nat.{_≤_, _<_}
 use mathlib.Core.Path.{_≡_, sym, _∙_}
-use mathlib.Core.Bool.{Bool, false, not, and-eq-true-iff, and-false}
-use lib.Dec.{leb}
+use mathlib.Core.Bool.{Bool, true, false, not, _&&_, and-eq-true-iff, and-false}
+use lib.Dec.{leb, ltb}
 use borrow.Author.Tests.{le-leb, lt-leb, leb-true, lt-ltb, le-ltb, not-false}
 use Rattle.sheet_record.specs.declared.Record.{Record}
 use Rattle.sheet_record.specs.Records.{recordFits}
@@ -40,10 +40,18 @@ module _ (r : Record) where
       rw
       (le-leb 1 (r .names) a, le-leb (r .names) 500 b, le-leb 1 (r .rows) c, le-leb (r .rows) 2000 d, lt-ltb (r .local) (r .names) e, le-leb (r .start) 1 f)
 
-pub few-names : (r : Record) (b : Bool) → b ≡ recordFits r → not b ≡ false → r .names ≤ 500
-unfolding recordFits
-few-names r b q n =
-    let t = and-eq-true-iff (leb 1 (r .names)) _ .0 (sym q ∙ not-false b n) in
-    leb-true (r .names) 500 (and-eq-true-iff (leb (r .names) 500) _ .0 (t .1) .0)
+-- a record that fits, by what record_fits answered
+module _ (r : Record) (b : Bool) (q : b ≡ recordFits r) (n : not b ≡ false) where
+  after-names : leb (r .names) 500 && (leb 1 (r .rows) && (leb (r .rows) 2000 && (ltb (r .local) (r .names) && (leb (r .start) 1 && leb (r .sole) 1)))) ≡ true
+  unfolding recordFits
+  after-names = and-eq-true-iff (leb 1 (r .names)) _ .0 (sym q ∙ not-false b n) .1
+
+  pub few-names : r .names ≤ 500
+  few-names = leb-true (r .names) 500 (and-eq-true-iff (leb (r .names) 500) _ .0 after-names .0)
+
+  pub few-rows : r .rows ≤ 2000
+  few-rows =
+      let t = and-eq-true-iff (leb (r .names) 500) _ .0 after-names .1 in
+      leb-true (r .rows) 2000 (and-eq-true-iff (leb (r .rows) 2000) _ .0 (and-eq-true-iff (leb 1 (r .rows)) _ .0 t .1) .0)
 
 pub ruleset answers = (no-names, many-names, no-rows, many-rows, no-local, no-start, last-sole)

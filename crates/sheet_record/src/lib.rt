@@ -3,7 +3,7 @@ ghost use mathlib.Core.Path.{_≡_};
 ghost use Prim.Native.Nat.{_+_, _*_, _≤_, _<_};
 ghost use lib.Dec.{leb};
 ghost use lib.ListN.{length};
-ghost use Rattle.sheet_record.specs.Records.{recordFits, offsetAt, sizeAt};
+ghost use Rattle.sheet_record.specs.Records.{recordFits, offsetAt, sizeAt, markAt};
 
 // What loading tells beside the tables: "counts of names and rows, local, start, sole".
 pub struct Record {
@@ -39,6 +39,14 @@ pub fn record_fits(record: Record) -> bool
     record.sole <= 1
 }
 
+// Whether a row table has its five numbers for each row.
+pub fn rows_held(record: Record, numbers: usize) -> bool
+    requires { ⌜ «record» .rows ≤ 2000 ⌝ }
+    ensures { λ r. ⌜ r ≡ leb (5 * «record» .rows) numbers ⌝ }
+{
+    5 * record.rows <= numbers
+}
+
 // Whether a name table has its three numbers for each name.
 pub fn names_held(record: Record, numbers: usize) -> bool
     requires { ⌜ «record» .names ≤ 500 ⌝ }
@@ -59,4 +67,11 @@ pub fn size_at(names: &[u32], number: usize) -> usize
     ensures { λ r. ⌜ r ≡ sizeAt (now (names .entry)) number ⌝ }
 {
     table::wide(names[3 * number + 1])
+}
+
+pub fn mark_at(names: &[u32], number: usize) -> usize
+    requires { ⌜ 3 * number + 2 < length (now names) ⌝ }
+    ensures { λ r. ⌜ r ≡ markAt (now (names .entry)) number ⌝ }
+{
+    table::wide(names[3 * number + 2])
 }

@@ -10,9 +10,9 @@ use Rattle.paths.specs.Evaluation.{Evaluation, Truth, is-false}
 use Rattle.paths.specs.Evaluates.{Evaluates, AllEvaluate, no-more, one-more}
 use Rattle.paths.proofs.Rules.{less, nowhere, weaken}
 use Rattle.paths.proofs.Evaluating.{evaluates-lift, evaluates-from}
-use Rattle.expr_effect.specs.declared.ExprDa.{ExprDa}
-use Rattle.expr_effect.specs.declared.ExprDa.the-variants.{Clean, Writes, Reads}
-use Rattle.expr_effect.specs.Effect.{writesWhen}
+use Rattle.effect_rules.specs.declared.ExprDa.{ExprDa}
+use Rattle.effect_rules.specs.declared.ExprDa.the-variants.{Clean, Writes, Reads}
+use Rattle.effect_rules.specs.Rules.{writesWhen}
 use Rattle.expr_effect.specs.Law.{EffectLaw, Meets, WhenLaw, ExprFacts, NoneRefer, none-left, and-more, ExprLaw}
 use Rattle.stmt_paths.specs.Execution.{unmet}
 use Rattle.da.specs.declared.DaGiveUp.{DaGiveUp}

@@ -25,7 +25,7 @@ use Rattle.paths.specs.Evaluation.{is-true, Evaluation, noEvaluation}
 use Rattle.paths.specs.Evaluates.{Evaluates, AllEvaluate}
 use Rattle.paths.proofs.Rules.{less, nowhere, weaken, rule-skip, rule-write, rule-read, rule-outside, rule-choice, rule-stops, rule-leaves, rule-again, rule-seq, rule-alt}
 use Rattle.paths.proofs.Evaluating.{in-order, evaluates-place}
-use Rattle.expr_effect.specs.Effect.{writesWhen}
+use Rattle.effect_rules.specs.Rules.{writesWhen}
 use Rattle.expr_effect.specs.Law.{ExprFacts, noFacts, NoneRefer, none-left, ExprLaw}
 use Rattle.expr_effect.proofs.Laws.{expr-laws, no-law as no-expr-law, none-refer}
 use Rattle.stmt_paths.specs.Execution.{Execution, plain, noExecution, oneByOne, ifElse as ifRuns, caseOf as caseRuns, whileTrue as whileRuns, assignment, jump, executionOf, heldAt as heldEvaluationsAt, heldEvaluations, executionAt, executions}

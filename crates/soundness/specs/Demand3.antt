@@ -14,18 +14,16 @@ use Rattle.da.specs.declared.DaResult.the-variants.{Ok}
 use Rattle.da.specs.Outcome.{State, unwritten, written, Accepted}
 use Rattle.da.specs.Walk.{daCtx, daStmt}
 
--- "If a sheet is accepted from the unwritten start, then whatever truth its conditions take, whichever arm, if any, each case picks,
--- whichever way each loop jump goes and whatever number of rounds each loop runs" (every list of events that is a path, with the
--- choices among them), "every read of the local on its path has a whole write before it, provided" (the premises, at every row).
--- "the call and loop facts are true": a path takes the side numbers as given.
+-- what is promised of a tree: "whatever truth its conditions take, whichever arm, if any, each case picks, whichever way each loop jump
+-- goes and whatever number of rounds each loop runs" (every list of events that is a path, with the choices among them), "every read
+-- of the local on its path has a whole write before it, provided" (the premises, at every row). "the call and loop facts are true":
+-- a path takes the side numbers as given.
+abbrev pub SafePaths : ℕ → (ℕ → Bool) → Forest → Type 0
+SafePaths x marks f = Premises x marks f → (t : List PathEvent) → IsPath x marks f t → ReadsWritten t
+
+-- "If a sheet is accepted from the unwritten start"
 abbrev pub Demand3 : Type 0
-Demand3 =
-    (x : ℕ) (marks : ℕ → Bool) (sole : Bool) (f : Forest)
-    → Accepted (daStmt (daCtx x marks sole) f unwritten)
-    → Premises x marks f
-    → (t : List PathEvent)
-    → IsPath x marks f t
-    → ReadsWritten t
+Demand3 = (x : ℕ) (marks : ℕ → Bool) (sole : Bool) (f : Forest) → Accepted (daStmt (daCtx x marks sole) f unwritten) → SafePaths x marks f
 
 -- the same from the one premise that it needs: no iff refers to the local
 abbrev pub Demand3FromIff : Type 0

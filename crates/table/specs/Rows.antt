@@ -63,6 +63,13 @@ pub record RowEnd (rows : List ℕ) (i to r : ℕ) : Type 0 where
   pub children : Nested rows (i + 1) r
   pub others : Nested rows r to
 
+-- row i with its descendants is the rows from i up to `end`
+pub record RowAlone (rows : List ℕ) (i end : ℕ) : Type 0 where
+  pub is : end ≡ endAt rows i
+  pub after : i < end
+  pub alone : Nested rows i end
+  pub children : Nested rows (i + 1) end
+
 -- what `next_at` tells of the sibling after the first of the rows i up to `to`, if there is a first
 pub record NextRow (rows : List ℕ) (i to r : ℕ) : Type 0 where
   pub is : r ≡ nextOf rows i to

@@ -1,0 +1,11 @@
+use Rattle.effect_rules.proofs.Steps.{forms}
+use Rattle.effect_rules.proofs.binary_form.Statement.{statement}
+use Rattle.effect_rules.proofs.binary_form.Tie as tie
+
+pub binary-form-spec : {M : Type 1} → statement M
+binary-form-spec =
+    tie.close
+    (tie.spec
+    (λ c. search forms)
+    (λ c. search forms)
+    (λ c. search forms))

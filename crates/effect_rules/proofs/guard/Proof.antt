@@ -1,0 +1,15 @@
+use borrow.Author.Needs.{needs}
+use Rattle.effect_rules.proofs.Steps.{guard-writes, guard-reads, guard-clean}
+use Rattle.effect_rules.proofs.guard.Statement.{statement}
+use Rattle.effect_rules.proofs.guard.Tie as tie
+
+pub guard-spec : {M : Type 1} → statement M
+guard-spec =
+    tie.close
+    (tie.spec
+    (λ c. search needs)
+    (λ c. search needs)
+    (λ c. search needs)
+    (λ c. search (guard-writes, guard-reads, guard-clean))
+    (λ c. search (guard-writes, guard-reads, guard-clean))
+    (λ c. search (guard-writes, guard-reads, guard-clean)))
