@@ -1,0 +1,16 @@
+use borrow.Author.Needs.{needs}
+use Rattle.da_leaf.proofs.Targets.{targets}
+use Rattle.da_leaf.proofs.da_target.Statement.{statement}
+use Rattle.da_leaf.proofs.da_target.Tie as tie
+
+pub da-target-spec : {M : Type 1} → statement M
+da-target-spec =
+    tie.close
+    (tie.spec
+    (λ c κs. search needs)
+    (λ c. search targets)
+    (λ c κs. search needs)
+    (λ c κs. search needs)
+    (λ c κs. search needs)
+    (λ c κs. search needs)
+    (λ c. search targets))

@@ -1,0 +1,4 @@
+pub mod Dispatch
+pub mod Branching
+pub mod Looping
+pub mod Asked
