@@ -1,0 +1,142 @@
+-- What the functions answer, from what stands in the code where they return.
+use Prim.Native.Nat.{ℕ, zero, suc, _+_, _-_, _*_, _≤_, _<_}
+use mathlib.Core.Path.{_≡_, refl, sym, _∙_}
+use mathlib.Core.Bool.{Bool, true, false, cond, not, _&&_, and-false, and-eq-true-iff}
+use mathlib.Core.List.{List}
+use native.Mathlib.Omega.{arith}
+use native.Mathlib.Numerals.{add-one}
+use lib.Dec.{eqb, leb}
+use lib.ListN.{length}
+use borrow.Author.Needs.{needs}
+use borrow.Author.Tests.{leb-true, lt-leb, le-leb, not-true, not-false}
+use Rattle.table.specs.Rows.{tree}
+use Rattle.checks.specs.declared.Fault.{Fault}
+use Rattle.checks.specs.declared.Checked.{Checked}
+use Rattle.checks.specs.declared.Checked.the-variants as C
+use Rattle.checks.specs.Checks.{fieldsOf, childrenOf}
+use Rattle.checks.proofs.Rows.{both-pass}
+use Rattle.checks.proofs.Passed.{children-passed}
+use Rattle.sheet_record.specs.declared.Record.{Record}
+use Rattle.sheet_record.specs.Records.{recordFits, markAt}
+use Rattle.sheet_record.proofs.Ranges.{few-names, few-rows}
+use Rattle.sheet.specs.declared.Refusal.the-variants.{WrongRecord, WrongTable}
+use Rattle.da.specs.declared.DaOut.{DaOut}
+use Rattle.da.specs.declared.DaOut.the-variants as O
+use Rattle.da.specs.declared.DaGiveUp.{DaGiveUp}
+use Rattle.da.specs.declared.DaResult.{DaResult}
+use Rattle.da.specs.declared.DaResult.the-variants.{Ok, Err}
+use Rattle.da.specs.Walk.{daCtx, daStmt}
+use Rattle.da_rows.specs.Tables.{marksOf}
+use Rattle.da_walk.specs.Constructs.{StatementIn}
+use Rattle.answers.specs.declared.Answer.{Answer}
+use Rattle.answers.specs.declared.Answer.the-variants.{Falls, Jumps, Refused}
+use Rattle.ask.specs.Ask.{recordHeld, marksFit, tableChecked, walked, walkAnswer, tableAnswer, askOf}
+
+-- record_held
+module _ (r : Record) (rowRoom nameRoom : ℕ) (b : Bool) (e : b ≡ recordFits r) where
+  pub record-wrong : not b ≡ true → false ≡ recordHeld r rowRoom nameRoom
+  unfolding recordHeld
+  record-wrong h = rw (← e, not-true b h)
+
+  module _ (h : not b ≡ false) (c : Bool) (f : c ≡ leb (5 * r .rows) rowRoom) where
+    pub rows-short : not c ≡ true → false ≡ recordHeld r rowRoom nameRoom
+    unfolding recordHeld
+    rows-short k = rw (← e, not-false b h, ← f, not-true c k)
+
+    pub names-decide : (d : Bool) → not c ≡ false → d ≡ leb (3 * r .names) nameRoom → d ≡ recordHeld r rowRoom nameRoom
+    unfolding recordHeld
+    names-decide d k v = v ∙ rw (← e, not-false b h, ← f, not-false c k)
+
+-- marks_fit: what its loop keeps is that the marks of the names below decide
+pub record MarksLeft (names : List ℕ) (count left : ℕ) : Type 0 where
+  pub within : left ≤ count
+  pub same : marksFit names count ≡ marksFit names left
+
+pub marks-start : (names : List ℕ) (count : ℕ) → MarksLeft names count count
+marks-start names count = record { within = omega arith; same = refl }
+
+module _ (names : List ℕ) (count left : ℕ) (w : MarksLeft names count left) where
+  pub marks-done : left ≤ 0 → true ≡ marksFit names count
+  unfolding marksFit
+  marks-done h = let z : left ≡ 0 = omega arith in sym (w .same ∙ rw z)
+
+  module _ (m n : ℕ) (h : 0 < left) (p : n ≡ left - 1) (q : m ≡ markAt names n) where
+    one-more : marksFit names left ≡ leb m 1 && marksFit names n
+    unfolding marksFit
+    one-more = let z : left ≡ suc n = (omega arith) ∙ add-one n in rw (z, q)
+
+    pub marks-bad : 1 < m → false ≡ marksFit names count
+    marks-bad k = sym (w .same ∙ one-more ∙ rw (lt-leb m 1 k))
+
+    pub marks-next : m ≤ 1 → MarksLeft names count n
+    marks-next k = record { within = omega (arith, w .within); same = w .same ∙ one-more ∙ rw (le-leb m 1 k) }
+
+-- table_checked
+module _ (r : Record) (rows : List ℕ) (c : Checked) (e : c ≡ fieldsOf rows (r .rows) (r .names)) where
+  pub fields-refused : (fault : Fault) (row : ℕ) → c ≡ C.Refused fault row → c ≡ tableChecked r rows
+  unfolding tableChecked
+  fields-refused fault row h = h ∙ rw (← e, h)
+
+  pub fields-passed : (d : Checked) → c ≡ C.Passed → d ≡ childrenOf rows (r .rows) → d ≡ tableChecked r rows
+  unfolding tableChecked
+  fields-passed d h v = v ∙ rw (← e, h)
+
+-- walk_answer
+module _ (d : DaResult) where
+  pub answers-stop : (stop : DaGiveUp) (r : Answer) → d ≡ Err stop → r ≡ walkAnswer (Err stop) → r ≡ walkAnswer d
+  answers-stop stop r h v = v ∙ rw h
+
+  pub answers-out : (out named : DaOut) (r : Answer) → d ≡ Ok out → out ≡ named → r ≡ walkAnswer (Ok named) → r ≡ walkAnswer d
+  answers-out out named r h k v = v ∙ rw (h, k)
+
+-- walk
+-- a table that passes has a statement as its first row
+pub table-statement : (r : Record) (rows : List ℕ) → tableChecked r rows ≡ C.Passed → StatementIn rows 0 (r .rows)
+unfolding tableChecked
+table-statement r rows e =
+    let both = both-pass (fieldsOf rows (r .rows) (r .names)) (childrenOf rows (r .rows)) e in
+    let right = children-passed rows (r .rows) (childrenOf rows (r .rows)) refl (both .1) in
+    record { nested = right .ends .nested; some = omega (arith, right .ends .held .some); statement = right .statement }
+
+pub walk-is : (r : Record) (rows names : List ℕ) (d : DaResult) (a : Answer)
+    → d ≡ daStmt (daCtx (r .local) (marksOf names) (eqb (r .sole) 1)) (tree rows 0 (r .rows)) (eqb (r .start) 1)
+    → a ≡ walkAnswer d
+    → a ≡ walkAnswer (walked r rows names)
+walk-is r rows names d a e v = v ∙ rw e
+
+-- table_answer
+module _ (r : Record) (rows names : List ℕ) (d : Checked) (v : d ≡ tableChecked r rows) where
+  pub table-passed : d ≡ C.Passed → tableChecked r rows ≡ C.Passed
+  table-passed q = sym v ∙ q
+
+  pub table-refused : (fault : Fault) (row : ℕ) → d ≡ C.Refused fault row → Refused WrongTable row ≡ tableAnswer r rows names
+  table-refused fault row q = rw (← v, q)
+
+  pub table-walked : (a : Answer) → d ≡ C.Passed → a ≡ walkAnswer (walked r rows names) → a ≡ tableAnswer r rows names
+  table-walked a q w = w ∙ rw (← v, q)
+
+pub ruleset checking = (needs, few-names, few-rows, record-wrong, rows-short, names-decide, marks-start, marks-done, marks-bad, marks-next, fields-refused, fields-passed, answers-stop, answers-out, table-statement, walk-is, table-passed, table-refused, table-walked)
+
+-- ask
+module _ (r : Record) (rows names : List ℕ) (b : Bool) (e : b ≡ recordHeld r (length rows) (length names)) where
+  pub ask-record : not b ≡ true → Refused WrongRecord 0 ≡ askOf r rows names
+  unfolding askOf
+  ask-record h = rw (← e, not-true b h)
+
+  module _ (h : not b ≡ false) where
+    pub names-room : 3 * r .names ≤ length names
+    unfolding recordHeld
+    names-room =
+        let t = and-eq-true-iff (recordFits r) _ .0 (sym e ∙ not-false b h) .1 in
+        leb-true (3 * r .names) (length names) (and-eq-true-iff (leb (5 * r .rows) (length rows)) _ .0 t .1)
+
+    module _ (c : Bool) (f : c ≡ marksFit names (r .names)) where
+      pub ask-marks : not c ≡ true → Refused WrongTable 0 ≡ askOf r rows names
+      unfolding askOf
+      ask-marks k = rw (← e, not-false b h, ← f, not-true c k)
+
+      pub ask-checked : (a : Answer) → not c ≡ false → a ≡ tableAnswer r rows names → a ≡ askOf r rows names
+      unfolding askOf
+      ask-checked a k w = w ∙ rw (← e, not-false b h, ← f, not-false c k)
+
+pub ruleset asking = (needs, ask-record, names-room, ask-marks, ask-checked)

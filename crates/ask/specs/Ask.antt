@@ -1,0 +1,71 @@
+-- Asking: document 01, "What the caller gets", refusals 22 and 23, and the order of asking. Definitions only.
+use Prim.Native.Nat.{ℕ, zero, suc, _*_}
+use mathlib.Core.Bool.{Bool, true, cond, _&&_}
+use mathlib.Core.List.{List}
+use lib.Dec.{eqb, leb}
+use lib.ListN.{length}
+use Rattle.table.specs.Rows.{Forest, tree}
+use Rattle.checks.specs.declared.Checked.{Checked}
+use Rattle.checks.specs.declared.Checked.the-variants as C
+use Rattle.checks.specs.Checks.{andThen, fieldsOf, childrenOf}
+use Rattle.sheet_record.specs.declared.Record.{Record}
+use Rattle.sheet_record.specs.Records.{recordFits, markAt}
+use Rattle.sheet.specs.declared.Refusal.the-variants.{WrongRecord, WrongTable}
+use Rattle.da.specs.declared.DaOut.{DaOut}
+use Rattle.da.specs.declared.DaOut.the-variants as O
+use Rattle.da.specs.declared.DaResult.{DaResult}
+use Rattle.da.specs.declared.DaResult.the-variants.{Ok, Err}
+use Rattle.da.specs.Outcome.{State}
+use Rattle.da.specs.Walk.{daCtx, daStmt}
+use Rattle.da_rows.specs.Tables.{marksOf}
+use Rattle.answers.specs.declared.Answer.{Answer}
+use Rattle.answers.specs.declared.Answer.the-variants.{Falls, Jumps, GivesUp, Refused}
+
+-- "22: the record has counts outside the ranges of 3, a local not below names, a start or sole above 1, or tables too short for it"
+unfoldable pub recordHeld : Record → ℕ → ℕ → Bool
+recordHeld r rowRoom nameRoom = recordFits r && (leb (5 * r .rows) rowRoom && leb (3 * r .names) nameRoom)
+
+-- "23: .. a jump mark is above 1": of the first names of a table, so many, none has such a mark
+unfoldable pub marksFit : List ℕ → ℕ → Bool
+marksFit names zero = true
+marksFit names (suc n) = leb (markAt names n) 1 && marksFit names n
+
+-- "23: a row number in the table breaks 5 to 9, a segment names no listed name"; "fields, ends and depth, children, each in row order"
+unfoldable pub tableChecked : Record → List ℕ → Checked
+tableChecked r rows = andThen (fieldsOf rows (r .rows) (r .names)) (childrenOf rows (r .rows))
+
+-- the tree of a record's rows
+abbrev pub rowTree : Record → List ℕ → Forest
+rowTree r rows = tree rows 0 (r .rows)
+
+-- where the walk starts: "falls with written 0 or 1", and start the same
+abbrev pub startOf : Record → State
+startOf r = eqb (r .start) 1
+
+-- da_stmt of row 0; sole 1 is that this block is the only writer of the net
+abbrev pub walked : Record → List ℕ → List ℕ → DaResult
+walked r rows names = daStmt (daCtx (r .local) (marksOf names) (eqb (r .sole) 1)) (rowTree r rows) (startOf r)
+
+-- "Asking gives one of: falls with written 0 or 1; jumps; give-up with reason, lo, hi"
+abbrev pub outAnswer : DaOut → Answer
+outAnswer (O.Falls written) = Falls written
+outAnswer O.Jumps = Jumps
+
+abbrev pub walkAnswer : DaResult → Answer
+walkAnswer (Ok out) = outAnswer out
+walkAnswer (Err stop) = GivesUp stop
+
+-- "23 (ask; place is the row)", or what follows
+abbrev pub afterTable : Checked → Answer → Answer
+afterTable C.Passed next = next
+afterTable (C.Refused fault row) next = Refused WrongTable row
+
+abbrev pub tableAnswer : Record → List ℕ → List ℕ → Answer
+tableAnswer r rows names = afterTable (tableChecked r rows) (walkAnswer (walked r rows names))
+
+-- "In asking, 22, then marks, then fields, ends and depth, children", and then the walk
+unfoldable pub askOf : Record → List ℕ → List ℕ → Answer
+askOf r rows names =
+    cond (recordHeld r (length rows) (length names))
+    (cond (marksFit names (r .names)) (tableAnswer r rows names) (Refused WrongTable 0))
+    (Refused WrongRecord 0)

@@ -1,0 +1,103 @@
+// Asking: a record and two tables that somebody lends are checked, and the walk answers. Nothing is asked of the caller, and nothing is
+// written.
+use answers::Answer;
+use checks::Checked;
+use da::DaOut;
+use da::DaResult;
+use da_rows::Context;
+use sheet::Refusal;
+use sheet_record::Record;
+ghost use mathlib.Core.Path.{_≡_};
+ghost use Prim.Native.Nat.{_*_, _≤_};
+ghost use lib.ListN.{length};
+ghost use Rattle.checks.specs.declared.Checked.the-variants.{Passed};
+ghost use Rattle.ask.specs.Ask.{recordHeld, marksFit, tableChecked, walkAnswer, walked, tableAnswer, askOf};
+ghost use Rattle.ask.specs.Meaning.{AskMeans};
+
+// Whether a record's numbers are in their ranges, and two tables of these lengths hold its rows and names.
+fn record_held(record: Record, rows: usize, names: usize) -> bool
+    ensures { λ r. ⌜ r ≡ recordHeld «record» rows names ⌝ }
+{
+    if !sheet_record::record_fits(record) {
+        return false;
+    }
+    if !sheet_record::rows_held(record, rows) {
+        return false;
+    }
+    sheet_record::names_held(record, names)
+}
+
+// Whether each jump mark of the first names of a table is 0 or 1.
+fn marks_fit(names: &[u32], count: usize) -> bool
+    requires { ⌜ 3 * count ≤ length (now names) ⌝ }
+    ensures { λ r. ⌜ r ≡ marksFit (now (names .entry)) count ⌝ }
+{
+    let mut left = count;
+    while 0 < left {
+        left -= 1;
+        if 1 < sheet_record::mark_at(names, left) {
+            return false;
+        }
+    }
+    true
+}
+
+// The checks of the rows: kinds and sides, then ends and depth, then children.
+fn table_checked(record: Record, rows: &[u32]) -> Checked
+    ensures { λ r. ⌜ r ≡ tableChecked «record» (now (rows .entry)) ⌝ }
+{
+    let fields = checks::fields(rows, record.rows, record.names);
+    let Checked::Passed = fields else {
+        return fields;
+    };
+    checks::children(rows, record.rows)
+}
+
+fn walk_answer(result: DaResult) -> Answer
+    ensures { λ r. ⌜ r ≡ walkAnswer result ⌝ }
+{
+    match result {
+        DaResult::Err(stop) => Answer::GivesUp(stop),
+        DaResult::Ok(out) => match out {
+            DaOut::Falls(written) => Answer::Falls(written),
+            DaOut::Jumps => Answer::Jumps,
+        },
+    }
+}
+
+// The walk of row 0, from the record's start.
+fn walk(record: Record, rows: &[u32], names: &[u32]) -> Answer
+    requires { ⌜ tableChecked «record» (now rows) ≡ Passed ⌝ }
+    ensures { λ r. ⌜ r ≡ walkAnswer (walked «record» (now (rows .entry)) (now (names .entry))) ⌝ }
+{
+    let ctx = Context {
+        local: record.local,
+        sole: record.sole == 1,
+    };
+    walk_answer(da_walk::da_stmt(rows, names, ctx, 0, record.rows, record.start == 1))
+}
+
+// The checks of the rows, then the walk.
+fn table_answer(record: Record, rows: &[u32], names: &[u32]) -> Answer
+    ensures { λ r. ⌜ r ≡ tableAnswer «record» (now (rows .entry)) (now (names .entry)) ⌝ }
+{
+    let checked = table_checked(record, rows);
+    match checked {
+        Checked::Refused(fault, row) => Answer::Refused(Refusal::WrongTable, row),
+        Checked::Passed => walk(record, rows, names),
+    }
+}
+
+// Whether every read of the local comes after a write, in the sheet that these tables hold.
+pub fn ask(record: Record, rows: &[u32], names: &[u32]) -> Answer
+    ensures { λ r. ⌜ r ≡ askOf «record» (now (rows .entry)) (now (names .entry)) ⌝ }
+    ensures means { λ r. ⌜ AskMeans «record» (now (rows .entry)) (now (names .entry)) r ⌝ }
+{
+    if !record_held(record, rows.len(), names.len()) {
+        return Answer::Refused(Refusal::WrongRecord, 0);
+    }
+    if !marks_fit(names, record.names) {
+        return Answer::Refused(Refusal::WrongTable, 0);
+    }
+    table_answer(record, rows, names)
+}

@@ -1,0 +1,102 @@
+-- Demand 3 over bytes: what asking means of the tables, said of the sheet that they were loaded from.
+use Prim.Native.Nat.{ℕ, _≤_}
+use mathlib.Core.Path.{_≡_, refl, sym, ap, subst, fun-ext, _∙_}
+use mathlib.Core.Bool.{Bool, true, false, cond}
+use mathlib.Core.List.{List}
+use native.Mathlib.Omega.{arith}
+use lib.Dec.{eqb}
+use Rattle.table.specs.Rows.{Forest, tree}
+use Rattle.sheet_record.specs.declared.Record.{Record}
+use Rattle.sheet_record.specs.Records.{textAt}
+use Rattle.lines.specs.Lines.{jumpMark}
+use Rattle.sheet.specs.declared.Refusal.{Refusal}
+use Rattle.sheet.specs.declared.Loaded.{Loaded}
+use Rattle.sheet.specs.declared.Loaded.the-variants as L
+use Rattle.sheet.specs.Load.{refusalNumber, linesOf, loadOf}
+use Rattle.sheet.proofs.GoodLoad.{GoodLoad, good-load, load-asked, load-tree, load-marks}
+use Rattle.sheet.proofs.Refusals.{load-number}
+use Rattle.da.specs.declared.DaOut.{DaOut}
+use Rattle.da.specs.declared.DaOut.the-variants as O
+use Rattle.da.specs.declared.DaResult.{DaResult}
+use Rattle.da.specs.declared.DaResult.the-variants.{Ok, Err}
+use Rattle.da_rows.specs.Tables.{marksOf}
+use Rattle.answers.specs.declared.Answer.{Answer}
+use Rattle.answers.specs.declared.Answer.the-variants.{Refused}
+use Rattle.answers.specs.Answers.{AcceptedAnswer}
+use Rattle.ask.specs.Ask.{rowTree, walked, walkAnswer, askOf}
+use Rattle.ask.specs.Meaning.{AskMeans}
+use Rattle.ask.proofs.Meaning.{ask-means}
+use Rattle.ask.proofs.Loaded.{asked-walks}
+use Rattle.verdict.specs.Sheets.{Sheet, isJumpName, sheetOf}
+use Rattle.verdict.specs.Verdict.{afterLoad, verdictOf}
+use Rattle.verdict.specs.Meaning.{SafeSheet, SheetDemand3, AskedDemand3, VerdictMeans}
+
+-- a name that begins so has mark 1
+mark-jump : (name : List ℕ) → eqb (jumpMark name) 1 ≡ isJumpName name
+unfolding jumpMark
+mark-jump name = go (isJumpName name)
+  where
+    go : (b : Bool) → eqb (cond b 1 0) 1 ≡ b
+    go true = refl
+    go false = refl
+
+-- the walk refuses nothing
+never-refused : (d : DaResult) (refusal : Refusal) (place : ℕ) → walkAnswer d ≡ Refused refusal place → refusalNumber refusal ≤ 21
+never-refused (Ok (O.Falls a)) refusal place e = let z : _≡_ {A = ℕ} 0 1 = cc in omega arith
+never-refused (Ok O.Jumps) refusal place e = let z : _≡_ {A = ℕ} 0 1 = cc in omega arith
+never-refused (Err stop) refusal place e = let z : _≡_ {A = ℕ} 0 1 = cc in omega arith
+
+module _ (s : List ℕ) (rowRoom nameRoom : ℕ) (r : Record) (e : loadOf s rowRoom nameRoom .answer ≡ L.Done r) where
+  good : GoodLoad s rowRoom nameRoom r
+  good = good-load s rowRoom nameRoom r e
+
+  abbrev loadedRows : List ℕ
+  loadedRows = loadOf s rowRoom nameRoom .rows
+
+  abbrev loadedNames : List ℕ
+  loadedNames = loadOf s rowRoom nameRoom .names
+
+  same-marks : marksOf loadedNames ≡ (λ i. isJumpName (textAt s (good .nameNumbers) i))
+  same-marks = fun-ext λ i. ap (λ (m : ℕ). eqb m 1) (load-marks s rowRoom nameRoom r e (good .nameNumbers) (good .rowNumbers) (good .lines) i) ∙ mark-jump (textAt s (good .nameNumbers) i)
+
+  -- the sheet's bytes say what the tables hold
+  sheet-is : sheetOf s ≡ record { local = r .local; start = r .start; marks = marksOf loadedNames; tree = rowTree r loadedRows }
+  unfolding sheetOf
+  sheet-is = rw (good .lines, same-marks, load-tree s rowRoom nameRoom r e (good .nameNumbers) (good .rowNumbers) (good .lines))
+
+  -- an answer about the tables is one about the sheet
+  of-sheet : (a : Answer) → a ≡ askOf r loadedRows loadedNames → VerdictMeans s a
+  of-sheet a q =
+      let m : AskMeans r loadedRows loadedNames a = ask-means r loadedRows loadedNames a q in
+      record {
+        safe = rw sheet-is (m .safe);
+        written = rw sheet-is (m .written);
+        away = rw sheet-is (m .away);
+        of-input = λ refusal place h. never-refused (walked r loadedRows loadedNames) refusal place (sym (asked-walks r loadedRows loadedNames (load-asked s rowRoom nameRoom r e)) ∙ sym q ∙ h);
+      }
+
+-- a load's refusal is no acceptance
+of-refusal : (s : List ℕ) (rowRoom nameRoom : ℕ) (refusal : Refusal) (line : ℕ) → loadOf s rowRoom nameRoom .answer ≡ L.Refused refusal line → (a : Answer) → a ≡ Refused refusal line → VerdictMeans s a
+of-refusal s rowRoom nameRoom refusal line e a q = record {
+  safe = λ h. absurd (subst AcceptedAnswer q h);
+  written = λ h. absurd (let z : _≡_ {A = ℕ} 0 1 = cc in omega arith);
+  away = λ h. absurd (let z : _≡_ {A = ℕ} 0 1 = cc in omega arith);
+  of-input = λ f p h. let same : refusal ≡ f = cc in rw (← same) (load-number s rowRoom nameRoom refusal line e);
+}
+
+-- the promise of the call
+pub verdict-means : (s : List ℕ) (rowRoom nameRoom : ℕ) (a : Answer) → a ≡ verdictOf s rowRoom nameRoom → VerdictMeans s a
+unfolding verdictOf
+verdict-means s rowRoom nameRoom a q = go (loadOf s rowRoom nameRoom .answer) refl q
+  where
+    go : (l : Loaded) → loadOf s rowRoom nameRoom .answer ≡ l → a ≡ afterLoad l (loadOf s rowRoom nameRoom .rows) (loadOf s rowRoom nameRoom .names) → VerdictMeans s a
+    go (L.Done r) e v = of-sheet s rowRoom nameRoom r e a v
+    go (L.Refused refusal line) e v = of-refusal s rowRoom nameRoom refusal line e a v
+
+-- demand 3 over bytes
+pub sheet-demand-3 : SheetDemand3
+sheet-demand-3 s rowRoom nameRoom h = verdict-means s rowRoom nameRoom (verdictOf s rowRoom nameRoom) refl .safe h
+
+-- and for whoever makes the two calls
+pub asked-demand-3 : AskedDemand3
+asked-demand-3 s rowRoom nameRoom r e h = of-sheet s rowRoom nameRoom r e (askOf r (loadOf s rowRoom nameRoom .rows) (loadOf s rowRoom nameRoom .names)) refl .safe h

@@ -1,0 +1,59 @@
+-- Demand 3 over bytes: "a single claim over every sheet with start 0 that loads and that asking accepts with the tables as loading left
+-- them, and over all its paths". It does not cover what a called function or task reads inside itself, which reasons 6 and 7 are left
+-- to, nor what other blocks write to a shared net, nor that the walk is the Rust's, which rests on comparison. Definitions only.
+use mathlib.Core.Path.{_≡_}
+use mathlib.Core.Bool.{true}
+use mathlib.Core.List.{List}
+use Prim.Native.Nat.{ℕ, _≤_}
+use Rattle.reads.specs.Iffs.{iffQuiet}
+use Rattle.paths.specs.Commands.{PathEvent, falls, Runs}
+use Rattle.paths.specs.Written.{Written}
+use Rattle.stmt_paths.specs.Execution.{executed}
+use Rattle.soundness.specs.Demand3.{SafePaths}
+use Rattle.sheet_record.specs.declared.Record.{Record}
+use Rattle.sheet.specs.declared.Refusal.{Refusal}
+use Rattle.sheet.specs.declared.Loaded.the-variants as L
+use Rattle.sheet.specs.Load.{refusalNumber, loadOf}
+use Rattle.answers.specs.declared.Answer.{Answer}
+use Rattle.answers.specs.declared.Answer.the-variants.{Falls, Jumps, Refused}
+use Rattle.answers.specs.Answers.{AcceptedAnswer}
+use Rattle.ask.specs.Ask.{askOf}
+use Rattle.verdict.specs.Sheets.{sheetOf}
+use Rattle.verdict.specs.Verdict.{verdictOf}
+
+-- what is promised of a sheet: provided the premises, on every path of its tree every read of its local has a whole write before it
+abbrev pub SafeSheet : List ℕ → Type 0
+SafeSheet s = SafePaths (sheetOf s .local) (sheetOf s .marks) (sheetOf s .tree)
+
+-- the demand, for tables of any length that the caller lends
+abbrev pub SheetDemand3 : Type 0
+SheetDemand3 = (s : List ℕ) (rowRoom nameRoom : ℕ) → AcceptedAnswer (verdictOf s rowRoom nameRoom) → sheetOf s .start ≡ 0 → SafeSheet s
+
+-- the same where the caller makes the two calls itself, on the record and the tables as loading left them
+abbrev pub AskedDemand3 : Type 0
+AskedDemand3 =
+    (s : List ℕ) (rowRoom nameRoom : ℕ) (r : Record)
+    → loadOf s rowRoom nameRoom .answer ≡ L.Done r
+    → AcceptedAnswer (askOf r (loadOf s rowRoom nameRoom .rows) (loadOf s rowRoom nameRoom .names))
+    → sheetOf s .start ≡ 0
+    → SafeSheet s
+
+-- what an answer means to whoever has the sheet
+pub record VerdictMeans (s : List ℕ) (answer : Answer) : Type 0 where
+  -- demand 3
+  pub safe : AcceptedAnswer answer → sheetOf s .start ≡ 0 → SafeSheet s
+  -- falls with written 1, from start 0: a path that falls through has written, if no iff refers to the local
+  pub written : answer ≡ Falls true
+      → sheetOf s .start ≡ 0
+      → iffQuiet (sheetOf s .local) (sheetOf s .tree) ≡ true
+      → (t : List PathEvent)
+      → Runs (executed (sheetOf s .local) (sheetOf s .marks) (sheetOf s .tree)) t falls
+      → Written t
+  -- jumps, from either start: no path falls through
+  pub away : answer ≡ Jumps
+      → iffQuiet (sheetOf s .local) (sheetOf s .tree) ≡ true
+      → (t : List PathEvent)
+      → Runs (executed (sheetOf s .local) (sheetOf s .marks) (sheetOf s .tree)) t falls
+      → ⊥
+  -- a refusal is one of load's: never 22 or 23
+  pub of-input : (refusal : Refusal) (place : ℕ) → answer ≡ Refused refusal place → refusalNumber refusal ≤ 21

@@ -1,0 +1,4 @@
+pub mod Puts
+pub mod Spellings
+pub mod ReadBack
+pub mod FieldLaws

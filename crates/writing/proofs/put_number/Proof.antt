@@ -1,0 +1,17 @@
+use borrow.Author.Needs.{needs}
+use Rattle.writing.proofs.Spellings.{answers}
+use Rattle.writing.proofs.put_number.Statement.{statement}
+use Rattle.writing.proofs.put_number.Tie as tie
+
+pub put-number-spec : {M : Type 1} → statement M
+put-number-spec =
+    tie.close
+    (tie.spec
+    (λ c. search needs)
+    (λ c κs. search needs)
+    (λ c. search needs)
+    (λ c. search needs)
+    (λ c. search needs)
+    (λ c κs. search answers)
+    (λ c. search needs)
+    (λ c. search answers))
