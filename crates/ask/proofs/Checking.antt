@@ -1,7 +1,7 @@
 -- What the functions answer, from what stands in the code where they return.
-use Prim.Native.Nat.{ℕ, zero, suc, _+_, _-_, _*_, _≤_, _<_}
+use Prim.Native.Nat.{ℕ, suc, _-_, _*_, _≤_, _<_}
 use mathlib.Core.Path.{_≡_, refl, sym, _∙_}
-use mathlib.Core.Bool.{Bool, true, false, cond, not, _&&_, and-false, and-eq-true-iff}
+use mathlib.Core.Bool.{Bool, true, false, not, _&&_, and-eq-true-iff}
 use mathlib.Core.List.{List}
 use native.Mathlib.Omega.{arith}
 use native.Mathlib.Numerals.{add-one}
@@ -17,19 +17,17 @@ use Rattle.checks.specs.Checks.{fieldsOf, childrenOf}
 use Rattle.checks.proofs.Rows.{both-pass}
 use Rattle.checks.proofs.Passed.{children-passed}
 use Rattle.sheet_record.specs.declared.Record.{Record}
-use Rattle.sheet_record.specs.Records.{recordFits, markAt}
+use Rattle.sheet_record.specs.Records.{recordFits, markAt, marksOf}
 use Rattle.sheet_record.proofs.Ranges.{few-names, few-rows}
 use Rattle.sheet.specs.declared.Refusal.the-variants.{WrongRecord, WrongTable}
 use Rattle.da.specs.declared.DaOut.{DaOut}
-use Rattle.da.specs.declared.DaOut.the-variants as O
 use Rattle.da.specs.declared.DaGiveUp.{DaGiveUp}
 use Rattle.da.specs.declared.DaResult.{DaResult}
 use Rattle.da.specs.declared.DaResult.the-variants.{Ok, Err}
 use Rattle.da.specs.Walk.{daCtx, daStmt}
-use Rattle.da_rows.specs.Tables.{marksOf}
 use Rattle.da_walk.specs.Constructs.{StatementIn}
 use Rattle.answers.specs.declared.Answer.{Answer}
-use Rattle.answers.specs.declared.Answer.the-variants.{Falls, Jumps, Refused}
+use Rattle.answers.specs.declared.Answer.the-variants.{Refused}
 use Rattle.ask.specs.Ask.{recordHeld, marksFit, tableChecked, walked, walkAnswer, tableAnswer, askOf}
 
 -- record_held

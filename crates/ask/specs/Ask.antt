@@ -9,7 +9,7 @@ use Rattle.checks.specs.declared.Checked.{Checked}
 use Rattle.checks.specs.declared.Checked.the-variants as C
 use Rattle.checks.specs.Checks.{andThen, fieldsOf, childrenOf}
 use Rattle.sheet_record.specs.declared.Record.{Record}
-use Rattle.sheet_record.specs.Records.{recordFits, markAt}
+use Rattle.sheet_record.specs.Records.{recordFits, markAt, marksOf}
 use Rattle.sheet.specs.declared.Refusal.the-variants.{WrongRecord, WrongTable}
 use Rattle.da.specs.declared.DaOut.{DaOut}
 use Rattle.da.specs.declared.DaOut.the-variants as O
@@ -17,7 +17,6 @@ use Rattle.da.specs.declared.DaResult.{DaResult}
 use Rattle.da.specs.declared.DaResult.the-variants.{Ok, Err}
 use Rattle.da.specs.Outcome.{State}
 use Rattle.da.specs.Walk.{daCtx, daStmt}
-use Rattle.da_rows.specs.Tables.{marksOf}
 use Rattle.answers.specs.declared.Answer.{Answer}
 use Rattle.answers.specs.declared.Answer.the-variants.{Falls, Jumps, GivesUp, Refused}
 

@@ -5,14 +5,14 @@ use mathlib.Core.Bool.{Bool, true, false, cond, _&&_}
 use mathlib.Core.List.{List}
 use native.Mathlib.Omega.{arith}
 use lib.Dec.{leb}
-use Rattle.table.specs.Rows.{kindAt, endAt}
-use Rattle.kinds.specs.Kinds.{S, isKind, inClass}
+use Rattle.table.specs.Rows.{kindAt, sideAt, endAt}
+use Rattle.kinds.specs.Kinds.{S, entry, isKind, inClass, sideFits}
 use Rattle.kinds.proofs.Below.{true-not-false}
 use Rattle.checks.specs.declared.Fault.{Fault}
-use Rattle.checks.specs.declared.Fault.the-variants.{NotHeld, WrongEnd, TooDeep, WrongChildren}
+use Rattle.checks.specs.declared.Fault.the-variants.{NotHeld, UnknownKind, WrongSide, WrongEnd, TooDeep, WrongChildren}
 use Rattle.checks.specs.declared.Checked.{Checked}
 use Rattle.checks.specs.declared.Checked.the-variants.{Passed, Refused}
-use Rattle.checks.specs.Checks.{numberOf, holds, andThen, firstFrom, whenHeld, enclosing, endFits, depthAt, endsAt, endsOf, childrenFit, childrenAt, rootAt, childrenOf}
+use Rattle.checks.specs.Checks.{numberOf, holds, andThen, firstFrom, whenHeld, enclosing, endFits, depthAt, fieldsAt, fieldsOf, endsAt, endsOf, childrenFit, childrenAt, rootAt, childrenOf}
 use Rattle.checks.specs.Held.{Held}
 use Rattle.checks.proofs.Room.{held-facts, holds-true, passed-held}
 
@@ -43,7 +43,7 @@ choice true p q = p refl
 choice false p q = q refl
 
 -- two checks, the second asked where the first passed
-both : {low high most : ℕ} {b : Checked} (a : Checked) → Within low high most a → (a ≡ Passed → Within low high most b) → Within low high most (andThen a b)
+pub both : {low high most : ℕ} {b : Checked} (a : Checked) → Within low high most a → (a ≡ Passed → Within low high most b) → Within low high most (andThen a b)
 both Passed p q = q refl
 both (Refused fault row) p q = p
 
@@ -55,10 +55,17 @@ first-within most test (suc n) i own =
     both (test i) (widen i (i + suc n) (omega arith) (omega arith) (own i))
     (λ p. widen i (i + suc n) (omega arith) (omega arith) (first-within most test n (i + 1) own))
 
--- 9 is the largest number of a table that holds its rows, and 22 that of any
-module _ (rows : List ℕ) (count most : ℕ) (nine : 9 ≤ most) (unheld : holds rows count ≡ false → 22 ≤ most) where
+-- 9 is the largest number of a table that holds its rows, and 22 that of any; its rows are below a number that is not 0
+module _ (rows : List ℕ) (count high most : ℕ) (some : 1 ≤ high) (few : holds rows count ≡ true → count ≤ high) (nine : 9 ≤ most) (unheld : holds rows count ≡ false → 22 ≤ most) where
   refused-here : (i : ℕ) (fault : Fault) → numberOf fault ≤ 9 → Within i (i + 1) most (Refused fault i)
   refused-here i fault h = refuses fault i (omega arith) (omega arith) (omega arith)
+
+  fields-own : (names i : ℕ) → Within i (i + 1) most (fieldsAt rows names i)
+  unfolding fieldsAt
+  fields-own names i =
+      choice (isKind (kindAt rows i))
+      (λ t. choice (sideFits (entry (kindAt rows i) .sides) names (sideAt rows i)) (λ t. passes) (λ t. refused-here i WrongSide (omega arith)))
+      (λ t. refused-here i UnknownKind (omega arith))
 
   ends-own : (i : ℕ) → Within i (i + 1) most (endsAt rows count i)
   unfolding endsAt
@@ -71,27 +78,38 @@ module _ (rows : List ℕ) (count most : ℕ) (nine : 9 ≤ most) (unheld : hold
   unfolding childrenAt
   children-own i = choice (isKind (kindAt rows i) && childrenFit rows i) (λ t. passes) (λ t. refused-here i WrongChildren (omega arith))
 
-  root-within : Within 0 2000 most (rootAt rows)
+  root-within : Within 0 high most (rootAt rows)
   unfolding rootAt
   root-within = choice (inClass S (kindAt rows 0)) (λ t. passes) (λ t. refuses WrongChildren 0 (omega arith) (omega arith) nine)
 
-  ends-within : Within 0 2000 most (endsOf rows count)
-  unfolding whenHeld
-  ends-within =
-      choice (holds rows count)
-      (λ t. widen 0 2000 (omega arith) (omega (arith, held-facts rows count t .few)) (first-within most (endsAt rows count) count 0 ends-own))
-      (λ t. refuses NotHeld 0 (omega arith) (omega arith) (unheld t))
+  rows-within : (test : ℕ → Checked) → ((i : ℕ) → Within i (i + 1) most (test i)) → holds rows count ≡ true → Within 0 high most (firstFrom test count 0)
+  rows-within test own t = widen 0 high (omega arith) (omega (arith, few t)) (first-within most test count 0 own)
 
-  children-within : Within 0 2000 most (childrenOf rows count)
+  held-within : (test : ℕ → Checked) → ((i : ℕ) → Within i (i + 1) most (test i)) → Within 0 high most (whenHeld rows count (firstFrom test count 0))
+  unfolding whenHeld
+  held-within test own = choice (holds rows count) (rows-within test own) (λ t. refuses NotHeld 0 (omega arith) (omega arith) (unheld t))
+
+  fields-within : (names : ℕ) → Within 0 high most (fieldsOf rows count names)
+  fields-within names = held-within (fieldsAt rows names) (fields-own names)
+
+  children-within : Within 0 high most (childrenOf rows count)
   children-within =
-      both (endsOf rows count) ends-within
+      both (endsOf rows count) (held-within (endsAt rows count) ends-own)
       (λ p. both (rootAt rows) root-within
-      (λ q. widen 0 2000 (omega arith) (omega (arith, passed-held rows count _ p .few)) (first-within most (childrenAt rows) count 0 children-own)))
+      (λ q. rows-within (childrenAt rows) children-own (holds-true rows count (passed-held rows count _ p))))
 
 -- a refusal of the check of children is at one of at most 2,000 rows, and at row 0 where the table does not hold its rows
 pub children-row : (rows : List ℕ) (count : ℕ) (r : Checked) (fault : Fault) (row : ℕ) → r ≡ childrenOf rows count → r ≡ Refused fault row → row ≤ 2000
-children-row rows count r fault row q e = omega (arith, children-within rows count 22 (omega arith) (λ t. omega arith) .row fault row (sym q ∙ e) .1)
+children-row rows count r fault row q e =
+    omega (arith, children-within rows count 2000 22 (omega arith) (λ t. held-facts rows count t .few) (omega arith) (λ t. omega arith) .row fault row (sym q ∙ e) .1)
 
--- of a table that holds its rows it is 7, 8 or 9
-pub children-number : (rows : List ℕ) (count : ℕ) → Held rows count → (fault : Fault) (row : ℕ) → childrenOf rows count ≡ Refused fault row → numberOf fault ≤ 9
-children-number rows count h = children-within rows count 9 (omega arith) (λ t. true-not-false (sym (holds-true rows count h) ∙ t)) .number
+-- of a table that holds its rows, a refusal is 5 to 9, at one of its rows
+module _ (rows : List ℕ) (count : ℕ) (h : Held rows count) where
+  not-unheld : holds rows count ≡ false → 22 ≤ 9
+  not-unheld t = true-not-false (sym (holds-true rows count h) ∙ t)
+
+  pub children-place : Within 0 count 9 (childrenOf rows count)
+  children-place = children-within rows count count 9 (h .some) (λ t. omega arith) (omega arith) not-unheld
+
+  pub fields-place : (names : ℕ) → Within 0 count 9 (fieldsOf rows count names)
+  fields-place = fields-within rows count count 9 (h .some) (λ t. omega arith) (omega arith) not-unheld

@@ -1,22 +1,21 @@
 -- The other arms of da_stmt that walk no statement: what the functions answer, from what stands in the code where they return.
-use mathlib.Core.Path.{_≡_, refl, sym, ap, _∙_}
+use mathlib.Core.Path.{_≡_, refl, sym, _∙_}
 use mathlib.Core.Bool.{Bool, true, false, cond, not, _&&_}
 use mathlib.Core.List.{List, [], _∷_}
-use Prim.Native.Nat.{ℕ, suc, _+_, _-_, _*_, _/_, _≤_, _<_}
+use Prim.Native.Nat.{ℕ, _+_, _-_, _*_, _/_, _≤_, _<_}
 use native.Mathlib.Omega.{arith}
 use lib.Dec.{eqb, leb, ltb}
 use lib.ListN.{length, List·getD-eq-default}
 use borrow.Author.Needs.{needs}
-use borrow.Author.Tests.{ne-eqb, ltb-true, ltb-false, leb-true, leb-false}
+use borrow.Author.Tests.{ne-eqb, ltb-true, ltb-false, leb-true}
 use denote.Enum.Declared.{tagOf}
 use types.Run.{OneOf}
-use Rattle.table.specs.Rows.{kindAt, sideAt, loAt, hiAt, endAt, Forest, nil, node, tree, Nested, RowEnd, RowAlone, NextRow}
-use Rattle.table.specs.Fold.{nth}
+use Rattle.table.specs.Rows.{kindAt, sideAt, loAt, hiAt, endAt, Forest, nil, node, tree, Nested, RowAlone, NextRow}
 use Rattle.table.proofs.Ranges.{ends-within, children}
 use Rattle.table.proofs.Tree.{tree-none, tree-some, tree-alone}
 use Rattle.kinds.specs.declared.StmtClass.{StmtClass}
 use Rattle.kinds.specs.declared.StmtClass.the-variants as K
-use Rattle.kinds.specs.Named.{stmtClass, taskEffect}
+use Rattle.kinds.specs.Named.{taskEffect}
 use Rattle.kinds.proofs.Below.{true-not-false}
 use Rattle.kinds.proofs.StmtClass.{the-type}
 use Rattle.kinds.proofs.Classes.{last-arm}
@@ -24,26 +23,24 @@ use Rattle.reads.specs.declared.Iff.the-variants.{Skipped}
 use Rattle.reads.specs.PathRows.{count, segments, isMarked, isLoopJump}
 use Rattle.reads.specs.Mentions.{refers}
 use Rattle.reads.specs.NoRef.{vetting, vetted, stmtNoRef}
-use Rattle.expr_effect.specs.Law.{ExprFacts, noFacts}
 use Rattle.expr_effect.proofs.Facts.{fact-refers}
-use Rattle.sheet_record.specs.Records.{markAt}
-use Rattle.loops.specs.Escape.{cannotEscapes}
-use Rattle.loops.specs.Time.{advancesAt, advances}
+use Rattle.sheet_record.specs.Records.{markAt, marksOf}
+use Rattle.loops.specs.Time.{advances}
 use Rattle.da.specs.declared.DaOut.{DaOut}
 use Rattle.da.specs.declared.DaOut.the-variants.{Falls, Jumps}
 use Rattle.da.specs.declared.DaGiveUp.{DaGiveUp}
 use Rattle.da.specs.declared.DaResult.{DaResult}
 use Rattle.da.specs.declared.DaResult.the-variants.{Ok, Err}
 use Rattle.da.specs.declared.CallEffect.{CallEffect}
-use Rattle.da.specs.declared.CallEffect.the-variants.{Inert, Writes, Reads, Unknown}
-use Rattle.da.specs.Outcome.{State, isWritten, _▷_}
+use Rattle.da.specs.declared.CallEffect.the-variants.{Unknown}
+use Rattle.da.specs.Outcome.{State, isWritten}
 use Rattle.da.specs.Walk.{DaCtx, StmtRow, unlessRead, callEffect, task, heldFacts, walkOf}
 use Rattle.da_rows.specs.declared.Context.{Context}
 use Rattle.da_leaf.specs.declared.Construct.{Construct}
-use Rattle.da_leaf.specs.declared.Construct.the-variants.{Leaf, Controlled}
-use Rattle.da_rows.specs.Tables.{marksOf, untimed, stmtAt, factsIn, factIn}
+use Rattle.da_leaf.specs.declared.Construct.the-variants.{Leaf}
+use Rattle.da_rows.specs.Tables.{untimed, stmtAt, factsIn, factIn}
 use Rattle.da_rows.specs.Asking.{giveUpAt}
-use Rattle.da_leaf.specs.Leaves.{onlyWrittenAt, returnAt, taskAt, disableAt, eventControlAt, constructOf, asksFirst, LeafRow, leafAt}
+use Rattle.da_leaf.specs.Leaves.{returnAt, taskAt, disableAt, eventControlAt, constructOf, asksFirst, LeafRow, leafAt}
 use Rattle.da_rows.proofs.Asking.{unless-then}
 
 -- call_effect

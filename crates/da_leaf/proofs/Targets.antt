@@ -1,14 +1,11 @@
 -- Assignments, and the plain local as a target: what the functions answer, from what stands in the code where they return.
 use mathlib.Core.Path.{_≡_, refl, sym, ap, _∙_}
-use mathlib.Core.Bool.{Bool, true, false, cond, not, _&&_, _||_, Bool·not-not}
-use mathlib.Core.List.{List, [], _∷_}
-use Prim.Native.Nat.{ℕ, _+_, _*_, _≤_, _<_}
-use native.Mathlib.Omega.{arith}
-use lib.Dec.{eqb}
-use lib.ListN.{length}
+use mathlib.Core.Bool.{Bool, true, false, cond, not, _&&_, Bool·not-not}
+use mathlib.Core.List.{List}
+use Prim.Native.Nat.{ℕ, _+_, _≤_, _<_}
 use borrow.Author.Needs.{needs}
 use borrow.Author.Tests.{ne-eqb, not-true, not-false}
-use Rattle.table.specs.Rows.{kindAt, loAt, hiAt, endAt, Forest, tree, Nested, RowEnd, RowAlone, NextRow}
+use Rattle.table.specs.Rows.{kindAt, endAt, Forest, tree, Nested, RowEnd, RowAlone, NextRow}
 use Rattle.table.specs.Fold.{nth}
 use Rattle.table.proofs.Fold.{fold-next}
 use Rattle.kinds.specs.declared.ExprClass.{ExprClass}
@@ -18,17 +15,15 @@ use Rattle.reads.specs.declared.Iff.the-variants.{Skipped}
 use Rattle.reads.specs.PathRows.{begins, segments, isLocal}
 use Rattle.reads.specs.Mentions.{refers}
 use Rattle.reads.specs.NoRef.{lvalueNoRef}
-use Rattle.effect_rules.specs.declared.ExprDa.{ExprDa}
-use Rattle.effect_rules.specs.declared.ExprDa.the-variants.{Clean, Writes, Reads}
 use Rattle.expr_effect.specs.Law.{ExprFacts, noFacts, factsAt, isPlain}
 use Rattle.expr_effect.proofs.Facts.{fact-none, fact-plain, fact-refers}
 use Rattle.da.specs.declared.DaOut.{DaOut}
-use Rattle.da.specs.declared.DaOut.the-variants.{Falls, Jumps}
+use Rattle.da.specs.declared.DaOut.the-variants.{Falls}
 use Rattle.da.specs.declared.DaGiveUp.{DaGiveUp}
 use Rattle.da.specs.declared.DaResult.{DaResult}
 use Rattle.da.specs.declared.DaResult.the-variants.{Ok, Err}
 use Rattle.da.specs.Outcome.{State, isWritten, gains, _▷_}
-use Rattle.da.specs.Walk.{exprOutWrites, unlessRead, unlessOneRead, assigned, fromRight, fromEvent}
+use Rattle.da.specs.Walk.{exprOutWrites, unlessOneRead}
 use Rattle.da_rows.specs.declared.Context.{Context}
 use Rattle.da_rows.specs.declared.States.{States}
 use Rattle.da_rows.specs.declared.Evaluated.{Evaluated}

@@ -21,7 +21,8 @@ use Rattle.da.specs.Walk.{DaCtx, exprOutWrites, unlessRead, unlessOneRead, assi
 use Rattle.da_rows.specs.declared.Context.{Context}
 use Rattle.da_leaf.specs.declared.Construct.{Construct}
 use Rattle.da_leaf.specs.declared.Construct.the-variants.{Leaf, Controlled, Arm, Block, If, Case, For, While, Repeat, Forever}
-use Rattle.da_rows.specs.Tables.{marksOf, stmtAt, factIn, factsIn, heldIn}
+use Rattle.sheet_record.specs.Records.{marksOf}
+use Rattle.da_rows.specs.Tables.{stmtAt, factIn, factsIn, heldIn}
 use Rattle.da_rows.specs.Asking.{giveUpAt}
 
 -- `onlyWritten` at row i

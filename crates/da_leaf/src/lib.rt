@@ -14,7 +14,8 @@ ghost use Rattle.table.specs.Rows.{Nested, RowAlone, tree};
 ghost use Rattle.kinds.specs.Named.{taskEffect};
 ghost use Rattle.reads.specs.PathRows.{isLocal, isLoopJump};
 ghost use Rattle.da.specs.Walk.{callEffect};
-ghost use Rattle.da_rows.specs.Tables.{marksOf, untimed, factIn};
+ghost use Rattle.sheet_record.specs.Records.{marksOf};
+ghost use Rattle.da_rows.specs.Tables.{untimed, factIn};
 ghost use Rattle.da_leaf.specs.Leaves.{onlyWrittenAt, isLident, targetAt, assignAt, eventAt, blockingAt, scheduled, nonblockingAt, returnAt, taskAt, disableAt, eventControlAt, constructOf, LeafRow, leafAt};
 
 // A statement that is accepted only where the local is written.

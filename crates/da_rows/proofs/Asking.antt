@@ -7,7 +7,6 @@ use lib.Dec.{ltb}
 use borrow.Author.Needs.{needs}
 use borrow.Author.Tests.{lt-ltb, le-ltb, ltb-true, ltb-false}
 use Rattle.table.specs.Rows.{loAt, hiAt, endAt, tree, Nested, RowEnd}
-use Rattle.table.specs.Fold.{nth}
 use Rattle.table.proofs.Fold.{fold-none, fold-some, fold-step}
 use Rattle.table.proofs.Loops.{Goes, goes-start, goes-on, loops}
 use Rattle.reads.specs.declared.Iff.the-variants.{Skipped}
@@ -16,8 +15,8 @@ use Rattle.reads.specs.NoRef.{exprNoRef}
 use Rattle.effect_rules.specs.declared.ExprDa.{ExprDa}
 use Rattle.effect_rules.specs.declared.ExprDa.the-variants.{Clean, Writes, Reads}
 use Rattle.effect_rules.specs.declared.ExprEffect.{ExprEffect}
-use Rattle.expr_effect.specs.Law.{ExprFacts, noFacts, factsAt, exprFacts, EffectTold}
-use Rattle.expr_effect.proofs.Facts.{fact-none, fact-lo, fact-hi, fact-refers}
+use Rattle.expr_effect.specs.Law.{ExprFacts, noFacts, factsAt, EffectTold}
+use Rattle.expr_effect.proofs.Facts.{fact-none, fact-lo, fact-hi}
 use Rattle.da.specs.declared.DaOut.{DaOut}
 use Rattle.da.specs.declared.DaOut.the-variants.{Falls}
 use Rattle.da.specs.declared.DaGiveUp.{DaGiveUp}

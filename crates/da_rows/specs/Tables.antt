@@ -1,18 +1,14 @@
 -- What the walk sees of two lent tables. Definitions only.
-use mathlib.Core.Bool.{Bool, false, cond}
+use mathlib.Core.Bool.{false, cond}
 use mathlib.Core.List.{List, []}
 use Prim.Native.Nat.{ℕ, _+_}
-use lib.Dec.{eqb, ltb}
+use lib.Dec.{ltb}
 use Rattle.table.specs.Rows.{kindAt, sideAt, loAt, hiAt, tree}
 use Rattle.table.specs.Fold.{nth}
 use Rattle.expr_effect.specs.Law.{ExprFacts, exprFacts, noFacts}
-use Rattle.sheet_record.specs.Records.{markAt}
+use Rattle.sheet_record.specs.Records.{marksOf}
 use Rattle.da.specs.Walk.{DaCtx, StmtRow, heldFacts, stmtRow}
 use Rattle.da_rows.specs.declared.Context.{Context}
-
--- "jump mark 1": the names of a name table that are marked
-abbrev pub marksOf : List ℕ → ℕ → Bool
-marksOf names i = eqb (markAt names i) 1
 
 -- DaCtx over a name table; whether time can advance has been asked before, of the statement that holds all others
 abbrev pub untimed : Context → List ℕ → DaCtx

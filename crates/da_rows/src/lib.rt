@@ -109,13 +109,7 @@ pub fn unless_read(rows: &[u32], local: usize, from: usize, to: usize, assigned:
 }
 
 // Each of the rows from `from` up to `to`, expressions of which no write is claimed.
-pub fn unless_one_read(
-    rows: &[u32],
-    local: usize,
-    from: usize,
-    to: usize,
-    assigned: bool,
-) -> DaResult
+fn unless_one_read(rows: &[u32], local: usize, from: usize, to: usize, assigned: bool) -> DaResult
     requires { ⌜ Nested (now rows) from to ⌝ }
     ensures { λ r. ⌜ r ≡ unlessOneRead (factsIn local (now (rows .entry)) from to) assigned (Ok (Falls assigned)) ⌝ }
 {

@@ -1,10 +1,10 @@
 -- Time is asked once, at the outermost statement.
-use mathlib.Core.Path.{_≡_, refl, sym, _∙_}
+use mathlib.Core.Path.{_≡_, sym, _∙_}
 use mathlib.Core.Bool.{Bool, true, false, cond, not, _&&_, or-false}
 use mathlib.Core.List.{List}
 use Prim.Native.Nat.{ℕ, _+_, _<_}
 use borrow.Author.Needs.{needs}
-use Rattle.table.specs.Rows.{kindAt, sideAt, loAt, hiAt, endAt, tree, Nested, RowEnd}
+use Rattle.table.specs.Rows.{kindAt, sideAt, loAt, hiAt, endAt, Forest, tree, Nested, RowEnd}
 use Rattle.table.specs.Fold.{fold}
 use Rattle.table.proofs.Tree.{tree-some, tree-alone}
 use Rattle.reads.specs.Mentions.{some}
@@ -15,8 +15,11 @@ use Rattle.da.specs.declared.DaResult.the-variants.{Err}
 use Rattle.da.specs.Outcome.{State}
 use Rattle.da.specs.Walk.{daCtx, daStmt}
 use Rattle.da.proofs.Timing.{asked-once}
+use Rattle.soundness.specs.Demand3.{WalkMeans}
+use Rattle.soundness.proofs.Demand3.{walk-means}
 use Rattle.da_rows.specs.declared.Context.{Context}
-use Rattle.da_rows.specs.Tables.{marksOf, untimed}
+use Rattle.sheet_record.specs.Records.{marksOf}
+use Rattle.da_rows.specs.Tables.{untimed}
 use Rattle.da_rows.specs.Asking.{giveUpAt}
 use Rattle.da_walk.specs.Constructs.{StatementIn, advancesAlone}
 
@@ -44,5 +47,9 @@ module _ (ctx : Context) (rows names : List ℕ) (from to : ℕ) (a : State) (b 
 
   pub stmt-walked : (r : DaResult) → b ≡ false → r ≡ daStmt (untimed ctx names) (tree rows from to) a → r ≡ daStmt (daCtx (ctx .local) (marksOf names) (ctx .sole)) (tree rows from to) a
   stmt-walked r h v = v ∙ sym (stmt-once ∙ rw h)
+
+-- both clauses of the contract
+pub stmt-told : (x : ℕ) (marks : ℕ → Bool) (sole : Bool) (f : Forest) (a : State) (r : DaResult) → r ≡ daStmt (daCtx x marks sole) f a → (r ≡ daStmt (daCtx x marks sole) f a) × WalkMeans x marks f a r
+stmt-told x marks sole f a r e = (e, rw e (walk-means x marks sole f a))
 
 pub ruleset asked = (needs, sole-stays, shared-asks, stmt-suspends, stmt-walked)

@@ -1,7 +1,7 @@
 -- Timing controls, blocks, ifs and cases: what the functions answer, from what stands in the code where they return.
 use mathlib.Core.Path.{_≡_, refl, sym, ap, _∙_}
 use mathlib.Core.Bool.{Bool, true, false, cond, not, _&&_, _||_, or-assoc, or-false}
-use mathlib.Core.List.{List, [], _∷_}
+use mathlib.Core.List.{List}
 use Prim.Native.Nat.{ℕ, _+_, _≤_, _<_}
 use borrow.Author.Tests.{lt-ltb}
 use Rattle.table.specs.Rows.{endAt, tree, Nested, RowEnd, NextRow}
@@ -21,7 +21,7 @@ use Rattle.da_rows.specs.declared.States.{States}
 use Rattle.da_rows.specs.declared.Evaluated.{Evaluated}
 use Rattle.da_rows.specs.declared.Evaluated.the-variants.{To, Read}
 use Rattle.da_rows.specs.Tables.{factIn}
-use Rattle.da_rows.specs.Asking.{statesAfter, evaluation}
+use Rattle.da_rows.specs.Asking.{evaluation}
 use Rattle.da_rows.specs.Parts.{partAt, partIn, isDefaultPart, isAbsentPart, labelsIn, caseOut}
 use Rattle.da_rows.proofs.Asking.{states-are, evaluated-stops, evaluated-goes, unless-one-then}
 use Rattle.da_rows.proofs.Parts.{first-absent, first-default, first-labels}

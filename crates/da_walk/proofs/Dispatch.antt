@@ -1,26 +1,25 @@
 -- How da_inner goes on at a row, by the class of its statement.
 use mathlib.Core.Path.{_≡_, refl, sym, ap, _∙_}
 use mathlib.Core.Bool.{Bool, true, false, cond, not, _&&_}
-use mathlib.Core.List.{List, []}
+use mathlib.Core.List.{List}
 use Prim.Native.Nat.{ℕ, _+_, _≤_, _<_}
-use Rattle.table.specs.Rows.{kindAt, endAt, tree, Nested, RowEnd, RowAlone}
+use Rattle.table.specs.Rows.{kindAt, tree, Nested, RowEnd, RowAlone}
 use Rattle.table.specs.Fold.{nth}
 use Rattle.table.proofs.Fold.{fold-none, fold-some}
 use Rattle.kinds.specs.declared.StmtClass.{StmtClass}
 use Rattle.kinds.specs.declared.StmtClass.the-variants as K
 use Rattle.kinds.specs.Named.{stmtClass}
 use Rattle.reads.specs.NoRef.{vetting, vetted, stmtNoRef}
-use Rattle.expr_effect.specs.Law.{ExprFacts, noFacts}
 use Rattle.da.specs.declared.DaOut.the-variants.{Falls}
 use Rattle.da.specs.declared.DaResult.{DaResult}
-use Rattle.da.specs.declared.DaResult.the-variants.{Ok, Err}
+use Rattle.da.specs.declared.DaResult.the-variants.{Ok}
 use Rattle.da.specs.Outcome.{State, isWritten, giveUp, _▷_}
 use Rattle.da.specs.Walk.{DaCtx, Walk, noWalk, heldFacts, walkOf, walkAt, daStmt}
 use Rattle.da_rows.specs.declared.Context.{Context}
 use Rattle.da_rows.specs.Tables.{untimed, stmtAt, factsIn, factIn, heldIn}
 use Rattle.da_rows.proofs.Asking.{unless-then, unless-one-then}
 use Rattle.da_leaf.specs.declared.Construct.{Construct}
-use Rattle.da_leaf.specs.Leaves.{constructOf, asksFirst, LeafRow, leafAt}
+use Rattle.da_leaf.specs.Leaves.{constructOf, asksFirst, LeafRow}
 use Rattle.da_walk.specs.Constructs.{walksIn, constructAt}
 
 -- no row

@@ -1,12 +1,11 @@
 -- Loops: what the functions answer, from what stands in the code where they return.
-use mathlib.Core.Path.{_≡_, refl, sym, ap, _∙_}
-use mathlib.Core.Bool.{Bool, true, false}
+use mathlib.Core.Path.{_≡_, refl, sym, _∙_}
+use mathlib.Core.Bool.{Bool, true}
 use mathlib.Core.List.{List}
-use Prim.Native.Nat.{ℕ, _+_, _≤_, _<_}
+use Prim.Native.Nat.{ℕ, _+_}
 use native.Mathlib.Omega.{arith}
 use Rattle.table.specs.Rows.{tree, Nested, RowAlone, NextRow}
 use Rattle.table.specs.Fold.{nth}
-use Rattle.table.proofs.Ranges.{later}
 use Rattle.table.proofs.Fold.{fold-none, fold-first, fold-next}
 use Rattle.expr_effect.specs.Law.{ExprFacts, noFacts, factsAt}
 use Rattle.loops.specs.Escape.{cannotEscapeAt, cannotEscapes}
@@ -20,7 +19,7 @@ use Rattle.da.specs.Walk.{DaCtx, Walk, StmtRow, noWalk, rounds, whileTrue, repe
 use Rattle.da_rows.specs.declared.States.{States}
 use Rattle.da_rows.specs.declared.Evaluated.{Evaluated}
 use Rattle.da_rows.specs.declared.Evaluated.the-variants.{To, Read}
-use Rattle.da_rows.specs.Tables.{stmtAt, factsIn, factIn}
+use Rattle.da_rows.specs.Tables.{stmtAt, factIn}
 use Rattle.da_rows.specs.Asking.{evaluation}
 use Rattle.da_rows.specs.Parts.{bodyAssigns}
 use Rattle.da_rows.proofs.Asking.{states-are, evaluated-stops, evaluated-goes}

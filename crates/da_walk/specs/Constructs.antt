@@ -3,8 +3,8 @@
 use mathlib.Core.Path.{_≡_}
 use mathlib.Core.Bool.{Bool, true, false, _||_}
 use mathlib.Core.List.{List}
-use Prim.Native.Nat.{ℕ, _+_, _≤_, _<_}
-use Rattle.table.specs.Rows.{kindAt, endAt, tree, Nested, RowAlone}
+use Prim.Native.Nat.{ℕ, _+_, _<_}
+use Rattle.table.specs.Rows.{kindAt, endAt, tree, Nested}
 use Rattle.table.specs.Fold.{nth, tail}
 use Rattle.kinds.specs.declared.StmtClass.{StmtClass}
 use Rattle.kinds.specs.Kinds.{S, inClass}

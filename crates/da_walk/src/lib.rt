@@ -12,7 +12,9 @@ ghost use mathlib.Core.Bool.{_&&_, not};
 ghost use Prim.Native.Nat.{_<_};
 ghost use Rattle.table.specs.Rows.{Nested, RowAlone, tree};
 ghost use Rattle.da.specs.Walk.{daCtx, daStmt};
-ghost use Rattle.da_rows.specs.Tables.{marksOf, untimed};
+ghost use Rattle.soundness.specs.Demand3.{WalkMeans};
+ghost use Rattle.sheet_record.specs.Records.{marksOf};
+ghost use Rattle.da_rows.specs.Tables.{untimed};
 ghost use Rattle.da_leaf.specs.Leaves.{LeafRow};
 ghost use Rattle.da_walk.specs.Constructs.{blockIn, ifIn, branchesIn, elseIn, caseIn, armsIn, armIn, controlledAt, LoopAt, roundsAt, conditionAt, forAt, whileAt, repeatAt, foreverAt, StatementIn, advancesAlone};
 
@@ -410,6 +412,7 @@ pub fn da_stmt(
 ) -> DaResult
     requires { ⌜ StatementIn (now rows) from to ⌝ }
     ensures { λ r. ⌜ r ≡ daStmt (daCtx (ctx .local) (marksOf (now (names .entry))) (ctx .sole)) (tree (now (rows .entry)) from to) assigned ⌝ }
+    ensures means { λ r. ⌜ WalkMeans (ctx .local) (marksOf (now (names .entry))) (tree (now (rows .entry)) from to) assigned r ⌝ }
 {
     if suspends(rows, ctx, from, to) {
         return DaResult::Err(da_rows::give_up(rows, from, 1));

@@ -5,8 +5,8 @@ use mathlib.Core.Bool.{true, false, and-false}
 use mathlib.Core.List.{List}
 use lib.ListN.{length}
 use borrow.Author.Tests.{le-leb, lt-leb}
-use Rattle.text.specs.Fields.{isStop, field, afterKey}
-use Rattle.text.specs.Numbers.{is, bounded}
+use Rattle.text.specs.Fields.{isStop, afterKey}
+use Rattle.text.specs.Numbers.{bounded}
 use Rattle.text.specs.Runs.{nextField, fieldNumber}
 use Rattle.text.proofs.FieldLaws.{key-stands, key-after, key-missing, next-ends, next-after, next-none, next-number}
 use Rattle.lines.specs.declared.Fault.the-variants.{WrongLine, WrongNumber, OutOfRange}

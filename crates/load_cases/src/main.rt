@@ -17,7 +17,7 @@ use names::Named;
 use sheet::Loaded;
 use sheet::Refusal;
 use sheet_record::Record;
-ghost use Prim.Native.Nat.{_≤_, _<_};
+ghost use Prim.Native.Nat.{_<_};
 ghost use lib.ListN.{length};
 
 fn say(text: &[u8]) {

@@ -1,13 +1,13 @@
 -- What the pass over the rows of one statement says of it among its siblings.
 use Prim.Native.Nat.{ℕ, _≤_, _<_}
-use mathlib.Core.Path.{_≡_, refl, sym, ap, _∙_}
+use mathlib.Core.Path.{_≡_, refl, _∙_}
 use mathlib.Core.Bool.{Bool, true, false, and-true}
-use mathlib.Core.List.{List, [], _∷_}
+use mathlib.Core.List.{List}
 use native.Mathlib.Omega.{arith}
 use lib.Dec.{ltb}
 use borrow.Author.Tests.{ltb-true, ltb-false}
 use Rattle.table.specs.Rows.{endAt, tree, Nested, nextOf}
-use Rattle.table.specs.Fold.{fold, nth}
+use Rattle.table.specs.Fold.{nth}
 use Rattle.table.proofs.Ranges.{ends-after, alone}
 use Rattle.table.proofs.Fold.{fold-none, fold-some}
 use Rattle.reads.specs.Iffs.{every}

@@ -11,14 +11,14 @@ use Rattle.checks.specs.declared.Checked.{Checked}
 use Rattle.checks.specs.declared.Checked.the-variants as C
 use Rattle.checks.specs.Held.{Held}
 use Rattle.checks.specs.Checks.{childrenOf}
-use Rattle.checks.proofs.Places.{children-number}
+use Rattle.checks.proofs.Places.{children-place}
 use Rattle.lines.specs.declared.Fault.{Fault}
 use Rattle.lines.specs.declared.Fault.the-variants.{WrongLine, WrongNumber, OutOfRange, WrongName, UnknownKind, WrongSide}
 use Rattle.lines.specs.Lines.{faultNumber}
 use Rattle.sheet_record.specs.declared.Record.{Record}
 use Rattle.sections.proofs.ReadLaws.{rows-length}
 use Rattle.sheet.specs.declared.Refusal.{Refusal}
-use Rattle.sheet.specs.declared.Refusal.the-variants.{TooLong, Line, NoRoom, Rows}
+use Rattle.sheet.specs.declared.Refusal.the-variants.{TooLong, NoRoom}
 use Rattle.sheet.specs.declared.Loaded.{Loaded}
 use Rattle.sheet.specs.declared.Loaded.the-variants.{Done, Refused}
 use Rattle.sheet.specs.Load.{refusalNumber, Parsed, parsed, wrong, linesOf, refuse, tableOf, hasRoom, afterChecks, checkedAnswer, withTables, finishOf, afterParse, loadOf}
@@ -42,7 +42,7 @@ line-number WrongSide = omega arith
 module _ (s : List ℕ) (rowRoom nameRoom : ℕ) where
   checks-number : (c : Checked) (r : Record) (table : List ℕ) → Held table (r .rows) → childrenOf table (r .rows) ≡ c → OfInput (afterChecks c r)
   checks-number C.Passed r table h e = tt
-  checks-number (C.Refused fault row) r table h e = omega (arith, children-number table (r .rows) h fault row e)
+  checks-number (C.Refused fault row) r table h e = omega (arith, children-place table (r .rows) h .number fault row e)
 
   with-tables : (a : Loaded) (rows names : List ℕ) → OfInput a → OfInput (withTables rowRoom nameRoom a rows names .answer)
   with-tables a rows names h = rw (answered rowRoom nameRoom a rows names) h

@@ -100,6 +100,7 @@ fn read_names(s: &[u8], names: &mut [u32]) -> Facts
         }
     }
 }
+
 // The line on which a row stands.
 fn line_of(record: Record, row: usize) -> usize
     requires { ⌜ («record» .names ≤ 500) × (row ≤ 2000) ⌝ }

@@ -40,18 +40,26 @@ module _ (r : Record) where
       rw
       (le-leb 1 (r .names) a, le-leb (r .names) 500 b, le-leb 1 (r .rows) c, le-leb (r .rows) 2000 d, lt-ltb (r .local) (r .names) e, le-leb (r .start) 1 f)
 
--- a record that fits, by what record_fits answered
-module _ (r : Record) (b : Bool) (q : b ≡ recordFits r) (n : not b ≡ false) where
+-- a record that fits
+module _ (r : Record) (h : recordFits r ≡ true) where
   after-names : leb (r .names) 500 && (leb 1 (r .rows) && (leb (r .rows) 2000 && (ltb (r .local) (r .names) && (leb (r .start) 1 && leb (r .sole) 1)))) ≡ true
   unfolding recordFits
-  after-names = and-eq-true-iff (leb 1 (r .names)) _ .0 (sym q ∙ not-false b n) .1
+  after-names = and-eq-true-iff (leb 1 (r .names)) _ .0 h .1
 
+  fits-names : r .names ≤ 500
+  fits-names = leb-true (r .names) 500 (and-eq-true-iff (leb (r .names) 500) _ .0 after-names .0)
+
+  pub fits-rows : (1 ≤ r .rows) × (r .rows ≤ 2000)
+  fits-rows =
+      let t = and-eq-true-iff (leb 1 (r .rows)) _ .0 (and-eq-true-iff (leb (r .names) 500) _ .0 after-names .1) in
+      (leb-true 1 (r .rows) (t .0), leb-true (r .rows) 2000 (and-eq-true-iff (leb (r .rows) 2000) _ .0 (t .1) .0))
+
+-- by what record_fits answered
+module _ (r : Record) (b : Bool) (q : b ≡ recordFits r) (n : not b ≡ false) where
   pub few-names : r .names ≤ 500
-  few-names = leb-true (r .names) 500 (and-eq-true-iff (leb (r .names) 500) _ .0 after-names .0)
+  few-names = fits-names r (sym q ∙ not-false b n)
 
   pub few-rows : r .rows ≤ 2000
-  few-rows =
-      let t = and-eq-true-iff (leb (r .names) 500) _ .0 after-names .1 in
-      leb-true (r .rows) 2000 (and-eq-true-iff (leb (r .rows) 2000) _ .0 (and-eq-true-iff (leb 1 (r .rows)) _ .0 t .1) .0)
+  few-rows = fits-rows r (sym q ∙ not-false b n) .1
 
 pub ruleset answers = (no-names, many-names, no-rows, many-rows, no-local, no-start, last-sole)

@@ -2,7 +2,7 @@
 use Prim.Native.Nat.{ℕ, _+_, _*_}
 use mathlib.Core.Bool.{Bool, _&&_}
 use mathlib.Core.List.{List}
-use lib.Dec.{leb, ltb}
+use lib.Dec.{eqb, leb, ltb}
 use lib.ListN.{take, drop, getD}
 use Rattle.sheet_record.specs.declared.Record.{Record}
 
@@ -22,6 +22,10 @@ sizeAt table i = getD table (3 * i + 1) 0
 -- its jump mark
 abbrev pub markAt : List ℕ → ℕ → ℕ
 markAt table i = getD table (3 * i + 2) 0
+
+-- "a disable whose path is one segment with jump mark 1": the names that are marked
+abbrev pub marksOf : List ℕ → ℕ → Bool
+marksOf table i = eqb (markAt table i) 1
 
 -- its bytes in the sheet
 abbrev pub textAt : List ℕ → List ℕ → ℕ → List ℕ

@@ -15,13 +15,12 @@ use Rattle.paths.proofs.Meaning.{reads-written, fall-is-written}
 use Rattle.stmt_paths.specs.Execution.{noExecution, executed, IsPath}
 use Rattle.stmt_paths.specs.Premises.{nowhere, firstFailing}
 use Rattle.stmt_paths.proofs.PremiseTest.{all-hold, premises-iff}
-use Rattle.da.specs.declared.DaOut.{DaOut}
 use Rattle.da.specs.declared.DaOut.the-variants.{Falls, Jumps}
 use Rattle.da.specs.declared.DaResult.{DaResult}
 use Rattle.da.specs.declared.DaResult.the-variants.{Ok}
 use Rattle.da.specs.Outcome.{State, unwritten, written, Accepted}
 use Rattle.da.specs.Walk.{DaCtx, daCtx, noWalk, daStmt}
-use Rattle.soundness.specs.Demand3.{Demand3, Demand3FromIff, FallsWritten, NeverFalls}
+use Rattle.soundness.specs.Demand3.{FallsWritten, NeverFalls, Demand3, Demand3FromIff, WalkMeans}
 use Rattle.soundness.proofs.Known.{known, known-unwritten, known-written}
 use Rattle.soundness.proofs.Sound.{Sound, sound-falls, sound-jumps, sound-stop}
 use Rattle.soundness.proofs.Law.{no-law}
@@ -30,10 +29,6 @@ use Rattle.soundness.proofs.Rows.{stmt-laws}
 -- the answer for row 0 is sound
 first-sound : (ctx : DaCtx) (f : Forest) (start : State) → iffQuiet (ctx .local) f ≡ true → Sound (known start) (executed (ctx .local) (ctx .marks) f) (daStmt ctx f start)
 first-sound ctx f start q = related-at noWalk noExecution 0 no-law (stmt-laws ctx f q) .sound start
-
--- "Accepted means falls or jumps", whatever is written
-pub falls-or-jumps : (out : DaOut) → Accepted (Ok out)
-falls-or-jumps out = tt
 
 accepted-reads : {c : Command} {r : DaResult} {t : List PathEvent} {o : Ending} → Sound none c r → Accepted r → Runs c t o → ReadsWritten t
 accepted-reads (sound-falls h) a x = reads-written h x
@@ -54,11 +49,16 @@ demand-3-tested x marks sole f a e t p = demand-3 x marks sole f a (all-hold x m
 written-falls : {c : Command} {t : List PathEvent} → Sound none c (Ok (Falls written)) → Runs c t falls → Written t
 written-falls {t = t} (sound-falls h) x = fall-is-written t (rw known-written at h) x
 
-pub falls-written : FallsWritten
-falls-written x marks sole f e q t x′ = written-falls (subst (Sound none (executed x marks f)) e (rw known-unwritten at (first-sound (daCtx x marks sole) f unwritten q))) x′
-
 jumps-never : {a : Mark} {c : Command} {t : List PathEvent} → Sound a c (Ok Jumps) → Runs c t falls → ⊥
 jumps-never {a} {t = t} (sound-jumps h) x = good-never t a (h .go a ⊑-refl t falls x)
 
-pub never-falls : NeverFalls
-never-falls x marks sole f start e q t x′ = jumps-never (subst (Sound (known start) (executed x marks f)) e (first-sound (daCtx x marks sole) f start q)) x′
+-- what an answer of the walk means
+module _ (x : ℕ) (marks : ℕ → Bool) (sole : Bool) (f : Forest) (start : State) where
+  falls-written : daStmt (daCtx x marks sole) f start ≡ Ok (Falls written) → start ≡ unwritten → FallsWritten x marks f
+  falls-written e z q t x′ = written-falls (rw (z, known-unwritten) at (subst (Sound (known start) (executed x marks f)) e (first-sound (daCtx x marks sole) f start q))) x′
+
+  never-falls : daStmt (daCtx x marks sole) f start ≡ Ok Jumps → NeverFalls x marks f
+  never-falls e q t x′ = jumps-never (subst (Sound (known start) (executed x marks f)) e (first-sound (daCtx x marks sole) f start q)) x′
+
+  pub walk-means : WalkMeans x marks f start (daStmt (daCtx x marks sole) f start)
+  walk-means = record { safe = λ a z. demand-3 x marks sole f (rw z at a); written = falls-written; away = never-falls }

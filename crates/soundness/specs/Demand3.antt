@@ -10,6 +10,7 @@ use Rattle.paths.specs.Written.{Written, ReadsWritten}
 use Rattle.stmt_paths.specs.Execution.{executed, IsPath}
 use Rattle.stmt_paths.specs.Premises.{Premises}
 use Rattle.da.specs.declared.DaOut.the-variants.{Falls, Jumps}
+use Rattle.da.specs.declared.DaResult.{DaResult}
 use Rattle.da.specs.declared.DaResult.the-variants.{Ok}
 use Rattle.da.specs.Outcome.{State, unwritten, written, Accepted}
 use Rattle.da.specs.Walk.{daCtx, daStmt}
@@ -20,6 +21,14 @@ use Rattle.da.specs.Walk.{daCtx, daStmt}
 -- a path takes the side numbers as given.
 abbrev pub SafePaths : ℕ → (ℕ → Bool) → Forest → Type 0
 SafePaths x marks f = Premises x marks f → (t : List PathEvent) → IsPath x marks f t → ReadsWritten t
+
+-- every path that falls through has written, if no iff refers to the local
+abbrev pub FallsWritten : ℕ → (ℕ → Bool) → Forest → Type 0
+FallsWritten x marks f = iffQuiet x f ≡ true → (t : List PathEvent) → Runs (executed x marks f) t falls → Written t
+
+-- no path falls through, if no iff refers to the local
+abbrev pub NeverFalls : ℕ → (ℕ → Bool) → Forest → Type 0
+NeverFalls x marks f = iffQuiet x f ≡ true → (t : List PathEvent) → Runs (executed x marks f) t falls → ⊥
 
 -- "If a sheet is accepted from the unwritten start"
 abbrev pub Demand3 : Type 0
@@ -35,22 +44,11 @@ Demand3FromIff =
     → IsPath x marks f t
     → ReadsWritten t
 
--- what the two accepted answers say of a path that goes on to what stands next: written 1, that it has written
-abbrev pub FallsWritten : Type 0
-FallsWritten =
-    (x : ℕ) (marks : ℕ → Bool) (sole : Bool) (f : Forest)
-    → daStmt (daCtx x marks sole) f unwritten ≡ Ok (Falls written)
-    → iffQuiet x f ≡ true
-    → (t : List PathEvent)
-    → Runs (executed x marks f) t falls
-    → Written t
-
--- jumps, that there is none, from either start
-abbrev pub NeverFalls : Type 0
-NeverFalls =
-    (x : ℕ) (marks : ℕ → Bool) (sole : Bool) (f : Forest) (start : State)
-    → daStmt (daCtx x marks sole) f start ≡ Ok Jumps
-    → iffQuiet x f ≡ true
-    → (t : List PathEvent)
-    → Runs (executed x marks f) t falls
-    → ⊥
+-- what the walk's answer for a tree means, from a start
+pub record WalkMeans (x : ℕ) (marks : ℕ → Bool) (f : Forest) (start : State) (result : DaResult) : Type 0 where
+  -- accepted from the unwritten start: demand 3
+  pub safe : Accepted result → start ≡ unwritten → SafePaths x marks f
+  -- "falls with written" 1, from that start
+  pub written : result ≡ Ok (Falls written) → start ≡ unwritten → FallsWritten x marks f
+  -- jumps, from either start
+  pub away : result ≡ Ok Jumps → NeverFalls x marks f

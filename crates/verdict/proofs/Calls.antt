@@ -1,8 +1,7 @@
 -- What the functions answer, from what stands in the code where they return.
 use Prim.Native.Nat.{ℕ}
-use mathlib.Core.Path.{_≡_, refl, sym, _∙_}
+use mathlib.Core.Path.{_≡_, _∙_}
 use mathlib.Core.List.{List}
-use lib.ListN.{length}
 use borrow.Author.Needs.{needs}
 use Rattle.sheet_record.specs.declared.Record.{Record}
 use Rattle.sheet.specs.declared.Refusal.{Refusal}

@@ -1,35 +1,30 @@
 -- Demand 3 over bytes: what asking means of the tables, said of the sheet that they were loaded from.
-use Prim.Native.Nat.{ℕ, _≤_}
+use Prim.Native.Nat.{ℕ}
 use mathlib.Core.Path.{_≡_, refl, sym, ap, subst, fun-ext, _∙_}
 use mathlib.Core.Bool.{Bool, true, false, cond}
 use mathlib.Core.List.{List}
 use native.Mathlib.Omega.{arith}
 use lib.Dec.{eqb}
-use Rattle.table.specs.Rows.{Forest, tree}
+use Rattle.table.specs.Rows.{tree}
 use Rattle.sheet_record.specs.declared.Record.{Record}
-use Rattle.sheet_record.specs.Records.{textAt}
+use Rattle.sheet_record.specs.Records.{textAt, marksOf}
 use Rattle.lines.specs.Lines.{jumpMark}
 use Rattle.sheet.specs.declared.Refusal.{Refusal}
 use Rattle.sheet.specs.declared.Loaded.{Loaded}
 use Rattle.sheet.specs.declared.Loaded.the-variants as L
-use Rattle.sheet.specs.Load.{refusalNumber, linesOf, loadOf}
+use Rattle.sheet.specs.Load.{loadOf}
 use Rattle.sheet.proofs.GoodLoad.{GoodLoad, good-load, load-asked, load-tree, load-marks}
 use Rattle.sheet.proofs.Refusals.{load-number}
-use Rattle.da.specs.declared.DaOut.{DaOut}
-use Rattle.da.specs.declared.DaOut.the-variants as O
-use Rattle.da.specs.declared.DaResult.{DaResult}
-use Rattle.da.specs.declared.DaResult.the-variants.{Ok, Err}
-use Rattle.da_rows.specs.Tables.{marksOf}
 use Rattle.answers.specs.declared.Answer.{Answer}
 use Rattle.answers.specs.declared.Answer.the-variants.{Refused}
 use Rattle.answers.specs.Answers.{AcceptedAnswer}
-use Rattle.ask.specs.Ask.{rowTree, walked, walkAnswer, askOf}
+use Rattle.ask.specs.Ask.{rowTree, walked, askOf}
 use Rattle.ask.specs.Meaning.{AskMeans}
-use Rattle.ask.proofs.Meaning.{ask-means}
+use Rattle.ask.proofs.Meaning.{never-refused, ask-means}
 use Rattle.ask.proofs.Loaded.{asked-walks}
-use Rattle.verdict.specs.Sheets.{Sheet, isJumpName, sheetOf}
+use Rattle.verdict.specs.Sheets.{isJumpName, sheetOf}
 use Rattle.verdict.specs.Verdict.{afterLoad, verdictOf}
-use Rattle.verdict.specs.Meaning.{SafeSheet, SheetDemand3, AskedDemand3, VerdictMeans}
+use Rattle.verdict.specs.Meaning.{SheetDemand3, AskedDemand3, VerdictMeans}
 
 -- a name that begins so has mark 1
 mark-jump : (name : List ℕ) → eqb (jumpMark name) 1 ≡ isJumpName name
@@ -39,12 +34,6 @@ mark-jump name = go (isJumpName name)
     go : (b : Bool) → eqb (cond b 1 0) 1 ≡ b
     go true = refl
     go false = refl
-
--- the walk refuses nothing
-never-refused : (d : DaResult) (refusal : Refusal) (place : ℕ) → walkAnswer d ≡ Refused refusal place → refusalNumber refusal ≤ 21
-never-refused (Ok (O.Falls a)) refusal place e = let z : _≡_ {A = ℕ} 0 1 = cc in omega arith
-never-refused (Ok O.Jumps) refusal place e = let z : _≡_ {A = ℕ} 0 1 = cc in omega arith
-never-refused (Err stop) refusal place e = let z : _≡_ {A = ℕ} 0 1 = cc in omega arith
 
 module _ (s : List ℕ) (rowRoom nameRoom : ℕ) (r : Record) (e : loadOf s rowRoom nameRoom .answer ≡ L.Done r) where
   good : GoodLoad s rowRoom nameRoom r
@@ -72,7 +61,7 @@ module _ (s : List ℕ) (rowRoom nameRoom : ℕ) (r : Record) (e : loadOf s rowR
         safe = rw sheet-is (m .safe);
         written = rw sheet-is (m .written);
         away = rw sheet-is (m .away);
-        of-input = λ refusal place h. never-refused (walked r loadedRows loadedNames) refusal place (sym (asked-walks r loadedRows loadedNames (load-asked s rowRoom nameRoom r e)) ∙ sym q ∙ h);
+        of-input = λ refusal place h. absurd (never-refused (walked r loadedRows loadedNames) refusal place (sym (asked-walks r loadedRows loadedNames (load-asked s rowRoom nameRoom r e)) ∙ sym q ∙ h));
       }
 
 -- a load's refusal is no acceptance

@@ -5,11 +5,7 @@ use mathlib.Core.Path.{_≡_}
 use mathlib.Core.Bool.{true}
 use mathlib.Core.List.{List}
 use Prim.Native.Nat.{ℕ, _≤_}
-use Rattle.reads.specs.Iffs.{iffQuiet}
-use Rattle.paths.specs.Commands.{PathEvent, falls, Runs}
-use Rattle.paths.specs.Written.{Written}
-use Rattle.stmt_paths.specs.Execution.{executed}
-use Rattle.soundness.specs.Demand3.{SafePaths}
+use Rattle.soundness.specs.Demand3.{SafePaths, FallsWritten, NeverFalls}
 use Rattle.sheet_record.specs.declared.Record.{Record}
 use Rattle.sheet.specs.declared.Refusal.{Refusal}
 use Rattle.sheet.specs.declared.Loaded.the-variants as L
@@ -42,18 +38,9 @@ AskedDemand3 =
 pub record VerdictMeans (s : List ℕ) (answer : Answer) : Type 0 where
   -- demand 3
   pub safe : AcceptedAnswer answer → sheetOf s .start ≡ 0 → SafeSheet s
-  -- falls with written 1, from start 0: a path that falls through has written, if no iff refers to the local
-  pub written : answer ≡ Falls true
-      → sheetOf s .start ≡ 0
-      → iffQuiet (sheetOf s .local) (sheetOf s .tree) ≡ true
-      → (t : List PathEvent)
-      → Runs (executed (sheetOf s .local) (sheetOf s .marks) (sheetOf s .tree)) t falls
-      → Written t
+  -- falls with written 1, from start 0: a path that falls through has written
+  pub written : answer ≡ Falls true → sheetOf s .start ≡ 0 → FallsWritten (sheetOf s .local) (sheetOf s .marks) (sheetOf s .tree)
   -- jumps, from either start: no path falls through
-  pub away : answer ≡ Jumps
-      → iffQuiet (sheetOf s .local) (sheetOf s .tree) ≡ true
-      → (t : List PathEvent)
-      → Runs (executed (sheetOf s .local) (sheetOf s .marks) (sheetOf s .tree)) t falls
-      → ⊥
+  pub away : answer ≡ Jumps → NeverFalls (sheetOf s .local) (sheetOf s .marks) (sheetOf s .tree)
   -- a refusal is one of load's: never 22 or 23
   pub of-input : (refusal : Refusal) (place : ℕ) → answer ≡ Refused refusal place → refusalNumber refusal ≤ 21

@@ -7,8 +7,8 @@ ghost use Rattle.sheet.specs.Load.{loadOf};
 ghost use Rattle.verdict.specs.Verdict.{verdictOf};
 ghost use Rattle.verdict.specs.Meaning.{VerdictMeans};
 
-// Load, then ask. The tables end as loading leaves them: zeros after a refusal, so that a caller can go on to ask for a name after any
-// other answer.
+// Load, then ask. The tables end as loading leaves them: zeros after a refusal; after any other answer a caller can go on to ask for a
+// name.
 fn verdict_of(sheet: &[u8], rows: &mut [u32], names: &mut [u32]) -> Answer
     ensures { λ r. ⌜ r ≡ verdictOf (now (sheet .entry)) (length (now (rows .entry))) (length (now (names .entry))) ⌝ }
     ensures row_table { λ r. ⌜ now (rows .exit) ≡ loadOf (now (sheet .entry)) (length (now (rows .entry))) (length (now (names .entry))) .rows ⌝ }

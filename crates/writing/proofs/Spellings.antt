@@ -1,6 +1,6 @@
 -- The text of a number, digit by digit from its last.
 use Prim.Native.Nat.{ℕ, zero, suc, _+_, _-_, _/_, _^_, _≤_, _<_}
-use mathlib.Core.Path.{_≡_, sym, ap, _∙_}
+use mathlib.Core.Path.{_≡_, sym, _∙_}
 use mathlib.Core.Bool.{Bool, true, false, cond}
 use mathlib.Core.List.{List, [], _∷_, _++_, append-assoc, append-nil}
 use native.Mathlib.Nat.{div-lt-iff-lt-mul, pow-suc}
@@ -13,7 +13,7 @@ use Rattle.writing.specs.Spelling.{digitOf, spelledBy, spelled}
 use Rattle.writing.specs.Putting.{PutAt}
 use Rattle.writing.specs.Steps.{Digits}
 
--- at most 20 digits, and at least one
+-- at most 20 digits
 by-few : (k n : ℕ) → length (spelledBy k n) ≤ k
 unfolding spelledBy
 by-few zero n = omega arith
@@ -26,14 +26,6 @@ by-few (suc k) n = go (ltb n 10) (by-few k (n / 10))
 pub spelled-few : (n : ℕ) → length (spelled n) ≤ 20
 unfolding spelled
 spelled-few n = by-few 20 n
-
-pub spelled-some : (n : ℕ) → 1 ≤ length (spelled n)
-unfolding spelled spelledBy
-spelled-some n = go (ltb n 10)
-  where
-    go : (b : Bool) → 1 ≤ length (cond b (digitOf n ∷ []) (spelledBy 19 (n / 10) ++ digitOf n ∷ []))
-    go true = omega arith
-    go false = simp length-append (omega arith)
 
 -- the text of one digit, and of more
 pub by-last : (k n : ℕ) → n ≤ 9 → spelledBy (suc k) n ≡ digitOf n ∷ []
@@ -111,9 +103,6 @@ module _ (n : ℕ) (bytes : List ℕ) (d rest : ℕ) (e : d ≡ digitOf rest) wh
 
 -- the digits at the end of 20 bytes, as a part of them
 module _ (n from : ℕ) (bytes : List ℕ) (w : Digits n from bytes) where
-  pub digits-size : 20 - from ≡ length (spelled n)
-  digits-size = omega (arith, w .size, length-drop from bytes, ap length (w .text))
-
   part : take (20 - from) (drop from bytes) ≡ spelled n
   part = take-all (20 - from) (drop from bytes) (omega (arith, w .size, length-drop from bytes)) ∙ w .text
 
@@ -123,4 +112,4 @@ module _ (n from : ℕ) (bytes : List ℕ) (w : Digits n from bytes) where
   pub digits-put : (at : ℕ) (out o : List ℕ) (r : ℕ) → PutAt out at (take (20 - from) (drop from bytes)) o r → PutAt out at (spelled n) o r
   digits-put at out o r v = rw part at v
 
-pub ruleset answers = (spell-start, spell-on, spell-end, digits-size, digits-fit, digits-put)
+pub ruleset answers = (spell-start, spell-on, spell-end, digits-fit, digits-put)

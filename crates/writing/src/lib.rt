@@ -52,16 +52,8 @@ fn digits(n: usize, bytes: &mut [u8]) -> usize
     from
 }
 
-// How many bytes the text of a number has.
-pub fn size_of(n: usize) -> usize
-    ensures { λ r. ⌜ r ≡ length (spelled n) ⌝ }
-{
-    let mut bytes = [0u8; 20];
-    20 - digits(n, &mut bytes)
-}
-
 // The decimal text of a number.
-pub fn put_number(out: &mut [u8], at: usize, n: usize) -> usize
+fn put_number(out: &mut [u8], at: usize, n: usize) -> usize
     requires { ⌜ at + length (spelled n) ≤ length (now out) ⌝ }
     ensures { λ r. ⌜ PutAt (now (out .entry)) at (spelled n) (now (out .exit)) r ⌝ }
 {

@@ -1,5 +1,5 @@
 use borrow.Author.Needs.{needs}
-use Rattle.da_walk.proofs.Asked.{asked}
+use Rattle.da_walk.proofs.Asked.{stmt-told, asked}
 use Rattle.da_walk.proofs.da_stmt.Statement.{statement}
 use Rattle.da_walk.proofs.da_stmt.Tie as tie
 
@@ -9,6 +9,6 @@ da-stmt-spec =
     (tie.spec
     (λ c κs. search needs)
     (λ c κs. search needs)
-    (λ c. search asked)
+    (λ c. stmt-told _ _ _ _ _ _ (search asked))
     (λ c κs. search needs)
-    (λ c. search asked))
+    (λ c. stmt-told _ _ _ _ _ _ (search asked)))
