@@ -8,9 +8,9 @@ use lib.ListN.{length}
 use borrow.Author.Tests.{le-leb}
 use Rattle.checks.specs.declared.Checked.the-variants as C
 use Rattle.sheet_record.specs.declared.Record.{Record}
-use Rattle.sheet_record.specs.Records.{markAt}
+use Rattle.sheet_record.specs.Records.{markAt, recordHeld, marksFit}
 use Rattle.sheet.specs.Meaning.{Asked}
-use Rattle.ask.specs.Ask.{recordHeld, marksFit, tableChecked, walked, walkAnswer, askOf}
+use Rattle.ask.specs.Ask.{tableChecked, walked, walkAnswer, askOf}
 
 all-marks : (names : List ℕ) (count : ℕ) → ((i : ℕ) → i < count → markAt names i ≤ 1) → marksFit names count ≡ true
 unfolding marksFit

@@ -15,7 +15,7 @@ use Rattle.checks.proofs.Places.{Within, both, fields-place, children-place}
 use Rattle.sheet.specs.declared.Refusal.{Refusal}
 use Rattle.sheet.specs.declared.Refusal.the-variants.{WrongRecord, WrongTable}
 use Rattle.sheet_record.specs.declared.Record.{Record}
-use Rattle.sheet_record.specs.Records.{recordFits, marksOf}
+use Rattle.sheet_record.specs.Records.{recordFits, marksOf, recordHeld, marksFit}
 use Rattle.sheet_record.proofs.Ranges.{fits-rows}
 use Rattle.da.specs.declared.DaOut.the-variants as O
 use Rattle.da.specs.declared.DaResult.{DaResult}
@@ -25,7 +25,7 @@ use Rattle.soundness.proofs.Demand3.{walk-means}
 use Rattle.answers.specs.declared.Answer.{Answer}
 use Rattle.answers.specs.declared.Answer.the-variants.{Falls, Jumps, Refused}
 use Rattle.answers.specs.Answers.{AcceptedAnswer}
-use Rattle.ask.specs.Ask.{recordHeld, marksFit, tableChecked, rowTree, startOf, walked, walkAnswer, afterTable, tableAnswer, askOf}
+use Rattle.ask.specs.Ask.{tableChecked, rowTree, startOf, walked, walkAnswer, afterTable, tableAnswer, askOf}
 use Rattle.ask.specs.Meaning.{OfState, of-record, of-table, AskMeans}
 
 -- asking refuses, or answers as the walk does

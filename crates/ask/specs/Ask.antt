@@ -1,15 +1,15 @@
 -- Asking: document 01, "What the caller gets", refusals 22 and 23, and the order of asking. Definitions only.
-use Prim.Native.Nat.{ℕ, zero, suc, _*_}
-use mathlib.Core.Bool.{Bool, true, cond, _&&_}
+use Prim.Native.Nat.{ℕ}
+use mathlib.Core.Bool.{cond}
 use mathlib.Core.List.{List}
-use lib.Dec.{eqb, leb}
+use lib.Dec.{eqb}
 use lib.ListN.{length}
 use Rattle.table.specs.Rows.{Forest, tree}
 use Rattle.checks.specs.declared.Checked.{Checked}
 use Rattle.checks.specs.declared.Checked.the-variants as C
 use Rattle.checks.specs.Checks.{andThen, fieldsOf, childrenOf}
 use Rattle.sheet_record.specs.declared.Record.{Record}
-use Rattle.sheet_record.specs.Records.{recordFits, markAt, marksOf}
+use Rattle.sheet_record.specs.Records.{recordHeld, marksFit, marksOf}
 use Rattle.sheet.specs.declared.Refusal.the-variants.{WrongRecord, WrongTable}
 use Rattle.da.specs.declared.DaOut.{DaOut}
 use Rattle.da.specs.declared.DaOut.the-variants as O
@@ -19,15 +19,6 @@ use Rattle.da.specs.Outcome.{State}
 use Rattle.da.specs.Walk.{daCtx, daStmt}
 use Rattle.answers.specs.declared.Answer.{Answer}
 use Rattle.answers.specs.declared.Answer.the-variants.{Falls, Jumps, GivesUp, Refused}
-
--- "22: the record has counts outside the ranges of 3, a local not below names, a start or sole above 1, or tables too short for it"
-unfoldable pub recordHeld : Record → ℕ → ℕ → Bool
-recordHeld r rowRoom nameRoom = recordFits r && (leb (5 * r .rows) rowRoom && leb (3 * r .names) nameRoom)
-
--- "23: .. a jump mark is above 1": of the first names of a table, so many, none has such a mark
-unfoldable pub marksFit : List ℕ → ℕ → Bool
-marksFit names zero = true
-marksFit names (suc n) = leb (markAt names n) 1 && marksFit names n
 
 -- "23: a row number in the table breaks 5 to 9, a segment names no listed name"; "fields, ends and depth, children, each in row order"
 unfoldable pub tableChecked : Record → List ℕ → Checked
@@ -50,6 +41,7 @@ abbrev pub outAnswer : DaOut → Answer
 outAnswer (O.Falls written) = Falls written
 outAnswer O.Jumps = Jumps
 
+-- "A give-up ends every walk above it, unchanged", here too
 abbrev pub walkAnswer : DaResult → Answer
 walkAnswer (Ok out) = outAnswer out
 walkAnswer (Err stop) = GivesUp stop
@@ -59,6 +51,7 @@ abbrev pub afterTable : Checked → Answer → Answer
 afterTable C.Passed next = next
 afterTable (C.Refused fault row) next = Refused WrongTable row
 
+-- the checks of the rows, then the walk
 abbrev pub tableAnswer : Record → List ℕ → List ℕ → Answer
 tableAnswer r rows names = afterTable (tableChecked r rows) (walkAnswer (walked r rows names))
 

@@ -8,39 +8,9 @@ use da_rows::Context;
 use sheet::Refusal;
 use sheet_record::Record;
 ghost use mathlib.Core.Path.{_≡_};
-ghost use Prim.Native.Nat.{_*_, _≤_};
-ghost use lib.ListN.{length};
 ghost use Rattle.checks.specs.declared.Checked.the-variants.{Passed};
-ghost use Rattle.ask.specs.Ask.{recordHeld, marksFit, tableChecked, walkAnswer, walked, tableAnswer, askOf};
+ghost use Rattle.ask.specs.Ask.{tableChecked, walkAnswer, walked, tableAnswer, askOf};
 ghost use Rattle.ask.specs.Meaning.{AskMeans};
-
-// Whether a record's numbers are in their ranges, and two tables of these lengths hold its rows and names.
-fn record_held(record: Record, rows: usize, names: usize) -> bool
-    ensures { λ r. ⌜ r ≡ recordHeld «record» rows names ⌝ }
-{
-    if !sheet_record::record_fits(record) {
-        return false;
-    }
-    if !sheet_record::rows_held(record, rows) {
-        return false;
-    }
-    sheet_record::names_held(record, names)
-}
-
-// Whether each jump mark of the first names of a table is 0 or 1.
-fn marks_fit(names: &[u32], count: usize) -> bool
-    requires { ⌜ 3 * count ≤ length (now names) ⌝ }
-    ensures { λ r. ⌜ r ≡ marksFit (now (names .entry)) count ⌝ }
-{
-    let mut left = count;
-    while 0 < left {
-        left -= 1;
-        if 1 < sheet_record::mark_at(names, left) {
-            return false;
-        }
-    }
-    true
-}
 
 // The checks of the rows: kinds and sides, then ends and depth, then children.
 fn table_checked(record: Record, rows: &[u32]) -> Checked
@@ -93,10 +63,10 @@ pub fn ask(record: Record, rows: &[u32], names: &[u32]) -> Answer
     ensures { λ r. ⌜ r ≡ askOf «record» (now (rows .entry)) (now (names .entry)) ⌝ }
     ensures means { λ r. ⌜ AskMeans «record» (now (rows .entry)) (now (names .entry)) r ⌝ }
 {
-    if !record_held(record, rows.len(), names.len()) {
+    if !sheet_record::record_held(record, rows.len(), names.len()) {
         return Answer::Refused(Refusal::WrongRecord, 0);
     }
-    if !marks_fit(names, record.names) {
+    if !sheet_record::marks_fit(names, record.names) {
         return Answer::Refused(Refusal::WrongTable, 0);
     }
     table_answer(record, rows, names)

@@ -54,12 +54,14 @@ partAt rows i = partOf (stmtClass (kindAt rows i))
 abbrev pub partIn : List ℕ → ℕ → ℕ → Part
 partIn rows from to = cond (ltb from to) (partAt rows from) Absent
 
+-- "default S": the arm of a case that a default is
 abbrev pub isDefaultPart : Part → Bool
 isDefaultPart Match = false
 isDefaultPart Default = true
 isDefaultPart Absent = false
 isDefaultPart Statement = false
 
+-- "? may be `none`": no statement stands there
 abbrev pub isAbsentPart : Part → Bool
 isAbsentPart Match = false
 isAbsentPart Default = false

@@ -18,10 +18,11 @@ untimed ctx names = record { local = ctx .local; marks = marksOf names; sole = c
 abbrev pub stmtAt : DaCtx → List ℕ → ℕ → ℕ → StmtRow
 stmtAt ctx rows i end = stmtRow ctx (kindAt rows i) (sideAt rows i) (loAt rows i) (hiAt rows i) (tree rows (i + 1) end)
 
--- the facts of the rows from `from` up to `to`, as expressions: each sibling's, and the first one's
+-- the facts of the rows from `from` up to `to`, as expressions: each sibling's
 abbrev pub factsIn : ℕ → List ℕ → ℕ → ℕ → List ExprFacts
 factsIn x rows from to = exprFacts x (tree rows from to)
 
+-- the first sibling's
 abbrev pub factIn : ℕ → List ℕ → ℕ → ℕ → ExprFacts
 factIn x rows from to = nth noFacts 0 (factsIn x rows from to)
 
@@ -29,9 +30,10 @@ factIn x rows from to = nth noFacts 0 (factsIn x rows from to)
 abbrev pub heldIn : ℕ → List ℕ → ℕ → ℕ → List ExprFacts
 heldIn x rows from to = nth [] 0 (heldFacts x (tree rows from to))
 
--- its span, zeros where there is none
+-- the span of the first of them, its lower end first; zeros where there is none
 abbrev pub firstLo : List ℕ → ℕ → ℕ → ℕ
 firstLo rows from to = cond (ltb from to) (loAt rows from) 0
 
+-- and its upper end
 abbrev pub firstHi : List ℕ → ℕ → ℕ → ℕ
 firstHi rows from to = cond (ltb from to) (hiAt rows from) 0

@@ -25,10 +25,11 @@ use Rattle.da_leaf.specs.declared.Construct.the-variants.{Leaf, Controlled, Arm
 use Rattle.da_leaf.specs.Leaves.{leafAt}
 use Rattle.da_walk.specs.declared.Loop.{Loop}
 
--- the walks of the rows from `from` up to `to`: each sibling's, and the first one's
+-- the walks of the rows from `from` up to `to`: each sibling's
 abbrev pub walksIn : DaCtx → List ℕ → ℕ → ℕ → List Walk
 walksIn ctx rows from to = walks ctx (tree rows from to)
 
+-- the first sibling's
 abbrev pub walkIn : DaCtx → List ℕ → ℕ → ℕ → Walk
 walkIn ctx rows from to = nth noWalk 0 (walksIn ctx rows from to)
 
@@ -47,6 +48,7 @@ branches t e s =
     elseFrom e (s .after) (s .«when_false») ▷ λ aElse.
     Ok (merge aThen aElse)
 
+-- the same of these rows, then and else
 abbrev pub branchesIn : DaCtx → List ℕ → ℕ → ℕ → States → DaResult
 branchesIn ctx rows from to s = branches (walkIn ctx rows from to) (nth noWalk 1 (walksIn ctx rows from to)) s
 
@@ -62,6 +64,7 @@ caseIn ctx rows from to a = caseOf (factIn (ctx .local) rows from to) (tail (wal
 abbrev pub armsFrom : DaOut → Bool → List Walk → State → DaResult
 armsFrom all hadDefault ws after = arms ws after all ▷ λ out. Ok (caseOut (hadDefault || hasDefault ws) after out)
 
+-- the same of these rows, all arms of the case
 abbrev pub armsIn : DaCtx → List ℕ → ℕ → ℕ → State → DaResult
 armsIn ctx rows from to after = armsFrom Jumps false (walksIn ctx rows from to) after
 
@@ -89,19 +92,22 @@ abbrev pub conditionAt : DaCtx → List ℕ → Loop → ℕ → State → DaRes
 conditionAt ctx rows at test a =
     whileTrue (stmtAt ctx rows (at .row) (at .end)) (nth true 0 (cannotEscapes (tree rows (at .body) (at .end)))) (factIn (ctx .local) rows test (at .end)) (walkIn ctx rows (at .body) (at .end)) (walkIn ctx rows (at .step) (at .body)) a
 
--- S::For, S::While, S::Repeat, S::Forever in row i
+-- S::For in row i, which ends at `end`
 abbrev pub forAt : DaCtx → List ℕ → ℕ → ℕ → State → DaResult
 forAt ctx rows i end a =
     forFrom (stmtAt ctx rows i end) (nth true 3 (cannotEscapes (tree rows (i + 1) end))) (walkIn ctx rows (i + 1) end) (nth noFacts 1 (factsIn (ctx .local) rows (i + 1) end)) (nth noWalk 2 (walksIn ctx rows (i + 1) end)) (nth noWalk 3 (walksIn ctx rows (i + 1) end)) a
 
+-- S::While, which has no step
 abbrev pub whileAt : DaCtx → List ℕ → ℕ → ℕ → State → DaResult
 whileAt ctx rows i end a =
     whileTrue (stmtAt ctx rows i end) (nth true 1 (cannotEscapes (tree rows (i + 1) end))) (factIn (ctx .local) rows (i + 1) end) (nth noWalk 1 (walksIn ctx rows (i + 1) end)) noWalk a
 
+-- S::Repeat
 abbrev pub repeatAt : DaCtx → List ℕ → ℕ → ℕ → State → DaResult
 repeatAt ctx rows i end a =
     repeated (stmtAt ctx rows i end) (nth true 1 (cannotEscapes (tree rows (i + 1) end))) (factIn (ctx .local) rows (i + 1) end) (nth noWalk 1 (walksIn ctx rows (i + 1) end)) a
 
+-- S::Forever, which has no condition
 abbrev pub foreverAt : DaCtx → List ℕ → ℕ → ℕ → State → DaResult
 foreverAt ctx rows i end a = rounds (stmtAt ctx rows i end) (nth true 0 (cannotEscapes (tree rows (i + 1) end))) (walkIn ctx rows (i + 1) end) noWalk a a
 

@@ -1,8 +1,7 @@
 // What an expression's row does to the local, from what its operands do: the rules of da/expr_effect.rs, which look at no row.
-use kinds::ExprClass;
 ghost use mathlib.Core.Path.{_≡_};
 ghost use mathlib.Core.Bool.{true, false, _||_};
-ghost use Rattle.effect_rules.specs.Rules.{unaryForm, binaryForm, callForm, formOf, join as joinOf, shortCircuit, oneArm, afterCond, effectOf, operandsWrite, combined, guarded, isWhole, isVetted, noEffect, vettedEffect};
+ghost use Rattle.effect_rules.specs.Rules.{join as joinOf, shortCircuit, oneArm, afterCond, effectOf, operandsWrite, vettedEffect};
 
 // What evaluating an expression does to the local, as in the Rust.
 pub enum ExprDa {
@@ -41,53 +40,6 @@ pub enum Form {
     Arms,
     CallWrites,
     Vetted,
-}
-
-fn unary_form(side: usize) -> Form
-    ensures { λ r. ⌜ r ≡ unaryForm side ⌝ }
-{
-    if side == 1 {
-        Form::LogNot
-    } else {
-        Form::Operand
-    }
-}
-
-fn binary_form(side: usize) -> Form
-    ensures { λ r. ⌜ r ≡ binaryForm side ⌝ }
-{
-    match side {
-        1 => Form::LogAnd,
-        2 => Form::LogOr,
-        _ => Form::Operands,
-    }
-}
-
-fn call_form(side: usize) -> Form
-    ensures { λ r. ⌜ r ≡ callForm side ⌝ }
-{
-    if side == 1 {
-        Form::CallWrites
-    } else {
-        Form::Vetted
-    }
-}
-
-pub fn form_of(class: ExprClass, side: usize) -> Form
-    ensures { λ r. ⌜ r ≡ formOf class side ⌝ }
-{
-    match class {
-        ExprClass::Paren => Form::Inner,
-        ExprClass::Unary => unary_form(side),
-        ExprClass::Binary => binary_form(side),
-        ExprClass::Ternary => Form::Arms,
-        ExprClass::Call => call_form(side),
-        ExprClass::Ident => Form::Vetted,
-        ExprClass::Lident => Form::Vetted,
-        ExprClass::Opaque => Form::Vetted,
-        ExprClass::Event => Form::Vetted,
-        ExprClass::Other => Form::Vetted,
-    }
 }
 
 // Two operands that are both evaluated, in an order that IEEE 1800 does not fix: a read on either side may come first.
@@ -161,7 +113,7 @@ fn vetted_effect(refers: bool) -> ExprDa
     if refers { ExprDa::Reads } else { ExprDa::Clean }
 }
 
-fn effect_of(form: Form, refers: bool, a: ExprEffect, b: ExprEffect, c: ExprEffect) -> ExprDa
+pub fn effect_of(form: Form, refers: bool, a: ExprEffect, b: ExprEffect, c: ExprEffect) -> ExprDa
     ensures { λ r. ⌜ r ≡ effectOf form refers a b c ⌝ }
 {
     let first = a.effect;
@@ -187,7 +139,7 @@ fn either_writes(a: bool, b: bool) -> bool
 }
 
 // What a clean row's operands write once the row is true.
-fn writes_when_true(form: Form, a: ExprEffect, b: ExprEffect) -> bool
+pub fn writes_when_true(form: Form, a: ExprEffect, b: ExprEffect) -> bool
     ensures { λ r. ⌜ r ≡ operandsWrite form true a b ⌝ }
 {
     match form {
@@ -204,7 +156,7 @@ fn writes_when_true(form: Form, a: ExprEffect, b: ExprEffect) -> bool
 }
 
 // What a clean row's operands write once the row is false.
-fn writes_when_false(form: Form, a: ExprEffect, b: ExprEffect) -> bool
+pub fn writes_when_false(form: Form, a: ExprEffect, b: ExprEffect) -> bool
     ensures { λ r. ⌜ r ≡ operandsWrite form false a b ⌝ }
 {
     match form {
@@ -217,85 +169,5 @@ fn writes_when_false(form: Form, a: ExprEffect, b: ExprEffect) -> bool
         Form::Arms => false,
         Form::CallWrites => false,
         Form::Vetted => false,
-    }
-}
-
-pub fn combine(form: Form, refers: bool, a: ExprEffect, b: ExprEffect, c: ExprEffect) -> RowEffect
-    ensures { λ r. ⌜ r ≡ combined form refers a b c ⌝ }
-{
-    RowEffect {
-        effect: effect_of(form, refers, a, b, c),
-        operands_true: writes_when_true(form, a, b),
-        operands_false: writes_when_false(form, a, b),
-    }
-}
-
-// A row that writes does so on every outcome; one that may read claims no write, so that no write can be claimed that a read
-// came before.
-pub fn guard(row: RowEffect) -> ExprEffect
-    ensures { λ r. ⌜ r ≡ guarded row ⌝ }
-{
-    let effect = row.effect;
-    match effect {
-        ExprDa::Writes => ExprEffect {
-            effect: ExprDa::Writes,
-            when_true: true,
-            when_false: true,
-        },
-        ExprDa::Reads => ExprEffect {
-            effect: ExprDa::Reads,
-            when_true: false,
-            when_false: false,
-        },
-        ExprDa::Clean => ExprEffect {
-            effect: ExprDa::Clean,
-            when_true: row.operands_true,
-            when_false: row.operands_false,
-        },
-    }
-}
-
-// Nothing evaluated.
-pub fn nothing() -> ExprEffect
-    ensures { λ r. ⌜ r ≡ noEffect ⌝ }
-{
-    ExprEffect {
-        effect: ExprDa::Clean,
-        when_true: false,
-        when_false: false,
-    }
-}
-
-// Forms whose operands are not looked at one by one.
-pub fn is_whole(form: Form) -> bool
-    ensures { λ r. ⌜ r ≡ isWhole form ⌝ }
-{
-    match form {
-        Form::CallWrites => true,
-        Form::Vetted => true,
-        Form::Inner => false,
-        Form::LogNot => false,
-        Form::Operand => false,
-        Form::LogAnd => false,
-        Form::LogOr => false,
-        Form::Operands => false,
-        Form::Arms => false,
-    }
-}
-
-// The form that the reference test decides.
-pub fn is_vetted(form: Form) -> bool
-    ensures { λ r. ⌜ r ≡ isVetted form ⌝ }
-{
-    match form {
-        Form::Vetted => true,
-        Form::CallWrites => false,
-        Form::Inner => false,
-        Form::LogNot => false,
-        Form::Operand => false,
-        Form::LogAnd => false,
-        Form::LogOr => false,
-        Form::Operands => false,
-        Form::Arms => false,
     }
 }

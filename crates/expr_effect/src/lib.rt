@@ -29,7 +29,7 @@ fn form_at(rows: &[u32], i: usize) -> Form
     requires { ⌜ 5 * i + 4 < length (now rows) ⌝ }
     ensures { λ r. ⌜ r ≡ formOf (exprClass (kindAt (now (rows .entry)) i)) (sideAt (now (rows .entry)) i) ⌝ }
 {
-    effect_rules::form_of(
+    row_effect::form_of(
         kinds::expr_class(table::kind_at(rows, i)),
         table::side_at(rows, i),
     )
@@ -56,12 +56,12 @@ fn whole(rows: &[u32], local: usize, form: Form, from: usize, to: usize) -> RowE
     requires { ⌜ Nested (now rows) from to ⌝ }
     ensures { λ r. ⌜ r ≡ combined form (refers Skipped local (tree (now (rows .entry)) from to)) noEffect noEffect noEffect ⌝ }
 {
-    let none = effect_rules::nothing();
-    if effect_rules::is_vetted(form) {
+    let none = row_effect::nothing();
+    if row_effect::is_vetted(form) {
         let clear = reads::expr_no_ref(rows, local, from, to);
-        return effect_rules::combine(form, !clear, none, none, none);
+        return row_effect::combine(form, !clear, none, none, none);
     }
-    effect_rules::combine(form, false, none, none, none)
+    row_effect::combine(form, false, none, none, none)
 }
 
 // The effect of the first of the rows from `from` up to `to`, and what its operands write. The operands are asked for effect
@@ -81,13 +81,13 @@ pub fn expr_da(rows: &[u32], local: usize, from: usize, to: usize) -> RowEffect
     let operands = operands_of(rows, from, to);
     let form = operands.form;
     let end = operands.end;
-    if effect_rules::is_whole(form) {
+    if row_effect::is_whole(form) {
         return whole(rows, local, form, from, end);
     }
     let a = expr_writes_when(rows, local, from + 1, end);
     let b = expr_writes_when(rows, local, operands.second, end);
     let c = expr_writes_when(rows, local, operands.third, end);
-    effect_rules::combine(form, false, a, b, c)
+    row_effect::combine(form, false, a, b, c)
 }
 
 // The effect of the first of the rows from `from` up to `to`, and whether the local is written once its value is true, and
@@ -97,5 +97,5 @@ pub fn expr_writes_when(rows: &[u32], local: usize, from: usize, to: usize) -> E
     ensures { λ r. ⌜ r ≡ exprEffectOf local (tree (now (rows .entry)) from to) 0 ⌝ }
     ensures means { λ r. ⌜ EffectTold local (tree (now (rows .entry)) from to) r ⌝ }
 {
-    effect_rules::guard(expr_da(rows, local, from, to))
+    row_effect::guard(expr_da(rows, local, from, to))
 }

@@ -29,5 +29,6 @@ abbrev pub partOf : List ℕ → Named → List ℕ
 partOf s (At offset size) = partAt s offset size
 partOf s (Refused refusal) = []
 
+-- "A third call returns a name's text"
 unfoldable pub textOf : List ℕ → Record → List ℕ → ℕ → List ℕ
 textOf s r table i = partOf s (namePlace s r table i)

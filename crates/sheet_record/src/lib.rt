@@ -3,7 +3,7 @@ ghost use mathlib.Core.Path.{_≡_};
 ghost use Prim.Native.Nat.{_+_, _*_, _≤_, _<_};
 ghost use lib.Dec.{leb};
 ghost use lib.ListN.{length};
-ghost use Rattle.sheet_record.specs.Records.{recordFits, offsetAt, sizeAt, markAt};
+ghost use Rattle.sheet_record.specs.Records.{recordFits, recordHeld, offsetAt, sizeAt, markAt, marksFit};
 
 // What loading tells beside the tables: "counts of names and rows, local, start, sole".
 pub struct Record {
@@ -40,7 +40,7 @@ pub fn record_fits(record: Record) -> bool
 }
 
 // Whether a row table has its five numbers for each row.
-pub fn rows_held(record: Record, numbers: usize) -> bool
+fn rows_held(record: Record, numbers: usize) -> bool
     requires { ⌜ «record» .rows ≤ 2000 ⌝ }
     ensures { λ r. ⌜ r ≡ leb (5 * «record» .rows) numbers ⌝ }
 {
@@ -53,6 +53,19 @@ pub fn names_held(record: Record, numbers: usize) -> bool
     ensures { λ r. ⌜ r ≡ leb (3 * «record» .names) numbers ⌝ }
 {
     3 * record.names <= numbers
+}
+
+// Whether a record's numbers are in their ranges, and two tables of these lengths hold its rows and names.
+pub fn record_held(record: Record, rows: usize, names: usize) -> bool
+    ensures { λ r. ⌜ r ≡ recordHeld «record» rows names ⌝ }
+{
+    if !record_fits(record) {
+        return false;
+    }
+    if !rows_held(record, rows) {
+        return false;
+    }
+    names_held(record, names)
 }
 
 pub fn offset_at(names: &[u32], number: usize) -> usize
@@ -74,4 +87,19 @@ pub fn mark_at(names: &[u32], number: usize) -> usize
     ensures { λ r. ⌜ r ≡ markAt (now (names .entry)) number ⌝ }
 {
     table::wide(names[3 * number + 2])
+}
+
+// Whether each jump mark of the first names of a table is 0 or 1.
+pub fn marks_fit(names: &[u32], count: usize) -> bool
+    requires { ⌜ 3 * count ≤ length (now names) ⌝ }
+    ensures { λ r. ⌜ r ≡ marksFit (now (names .entry)) count ⌝ }
+{
+    let mut left = count;
+    while 0 < left {
+        left -= 1;
+        if 1 < mark_at(names, left) {
+            return false;
+        }
+    }
+    true
 }

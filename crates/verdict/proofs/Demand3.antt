@@ -89,3 +89,7 @@ sheet-demand-3 s rowRoom nameRoom h = verdict-means s rowRoom nameRoom (verdictO
 -- and for whoever makes the two calls
 pub asked-demand-3 : AskedDemand3
 asked-demand-3 s rowRoom nameRoom r e h = of-sheet s rowRoom nameRoom r e (askOf r (loadOf s rowRoom nameRoom .rows) (loadOf s rowRoom nameRoom .names)) refl .safe h
+
+-- the clauses of the contract, with what it says of the tables
+pub verdict-told : {B C : Type 0} (s : List ℕ) (rowRoom nameRoom : ℕ) (a : Answer) → a ≡ verdictOf s rowRoom nameRoom → B → C → (a ≡ verdictOf s rowRoom nameRoom) × (B × (C × VerdictMeans s a))
+verdict-told s rowRoom nameRoom a e b c = (e, (b, (c, verdict-means s rowRoom nameRoom a e)))

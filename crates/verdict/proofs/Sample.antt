@@ -15,7 +15,7 @@ use Rattle.text.specs.Numbers.{isDigit, allDigits, isEmpty, zeroFirst, decimal,
 use Rattle.lines.specs.Lines.{keyed, numberLine, jumpMark, nameOf, nameLine, fiveFields, rowOf, rowFrom, rowFields, rowLine, rowAt}
 use Rattle.sections.specs.Sections.{linesFrom, nameStep, rowStep}
 use Rattle.header.specs.Header.{headOf, lastFacts, factsFrom}
-use Rattle.sheet_record.specs.Records.{recordFits}
+use Rattle.sheet_record.specs.Records.{recordFits, recordHeld, marksFit}
 use Rattle.sheet.specs.Load.{beforeRows, linesOf, refuse, tableOf, hasRoom, checkedAnswer, finishOf, loadOf}
 use Rattle.sheet.proofs.Sample.{line, listing}
 use Rattle.reads.specs.PathRows.{isNamed, begins, count, segments, isLocal, isMarked, isLoopJump}
@@ -36,7 +36,7 @@ use Rattle.da.specs.Walk.{heldAt, walkAt}
 use Rattle.writing.specs.Spelling.{spelledBy, spelled, fieldText}
 use Rattle.answers.specs.declared.Answer.the-variants.{Falls, GivesUp}
 use Rattle.answers.specs.Answers.{AcceptedAnswer, answerText}
-use Rattle.ask.specs.Ask.{recordHeld, marksFit, tableChecked, askOf}
+use Rattle.ask.specs.Ask.{tableChecked, askOf}
 use Rattle.verdict.specs.Sheets.{sheetOf}
 use Rattle.verdict.specs.Verdict.{verdictOf}
 use Rattle.verdict.proofs.Demand3.{sheet-demand-3}

@@ -7,26 +7,17 @@ ghost use Rattle.sheet.specs.Load.{loadOf};
 ghost use Rattle.verdict.specs.Verdict.{verdictOf};
 ghost use Rattle.verdict.specs.Meaning.{VerdictMeans};
 
-// Load, then ask. The tables end as loading leaves them: zeros after a refusal; after any other answer a caller can go on to ask for a
-// name.
-fn verdict_of(sheet: &[u8], rows: &mut [u32], names: &mut [u32]) -> Answer
-    ensures { λ r. ⌜ r ≡ verdictOf (now (sheet .entry)) (length (now (rows .entry))) (length (now (names .entry))) ⌝ }
-    ensures row_table { λ r. ⌜ now (rows .exit) ≡ loadOf (now (sheet .entry)) (length (now (rows .entry))) (length (now (names .entry))) .rows ⌝ }
-    ensures name_table { λ r. ⌜ now (names .exit) ≡ loadOf (now (sheet .entry)) (length (now (rows .entry))) (length (now (names .entry))) .names ⌝ }
-{
-    let loaded = sheet::load(sheet, rows, names);
-    match loaded {
-        Loaded::Refused(refusal, line) => Answer::Refused(refusal, line),
-        Loaded::Done(record) => ask::ask(record, rows, names),
-    }
-}
-
-// Whether every read of the local comes after a write in this sheet. What is promised of an accepted one is the last clause.
+// Whether every read of the local comes after a write in this sheet: load, then ask. What is promised of an accepted one is the last
+// clause. The tables end as loading leaves them: zeros after a refusal; after any other answer a caller can go on to ask for a name.
 pub fn verdict(sheet: &[u8], rows: &mut [u32], names: &mut [u32]) -> Answer
     ensures { λ r. ⌜ r ≡ verdictOf (now (sheet .entry)) (length (now (rows .entry))) (length (now (names .entry))) ⌝ }
     ensures row_table { λ r. ⌜ now (rows .exit) ≡ loadOf (now (sheet .entry)) (length (now (rows .entry))) (length (now (names .entry))) .rows ⌝ }
     ensures name_table { λ r. ⌜ now (names .exit) ≡ loadOf (now (sheet .entry)) (length (now (rows .entry))) (length (now (names .entry))) .names ⌝ }
     ensures demand_3 { λ r. ⌜ VerdictMeans (now (sheet .entry)) r ⌝ }
 {
-    verdict_of(sheet, rows, names)
+    let loaded = sheet::load(sheet, rows, names);
+    match loaded {
+        Loaded::Refused(refusal, line) => Answer::Refused(refusal, line),
+        Loaded::Done(record) => ask::ask(record, rows, names),
+    }
 }

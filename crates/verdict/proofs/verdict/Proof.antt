@@ -1,5 +1,6 @@
 use borrow.Author.Needs.{needs}
-use Rattle.verdict.proofs.Demand3.{verdict-means}
+use Rattle.verdict.proofs.Demand3.{verdict-told}
+use Rattle.verdict.proofs.Calls.{calls}
 use Rattle.verdict.proofs.verdict.Statement.{statement}
 use Rattle.verdict.proofs.verdict.Tie as tie
 
@@ -10,4 +11,10 @@ verdict-spec =
     (λ c κs. search needs)
     (λ c. search needs)
     (λ c. search needs)
-    (λ c. (search needs, (search needs, (search needs, search verdict-means)))))
+    (λ c κs. search needs)
+    (λ c. search needs)
+    (λ c. search needs)
+    (λ c. verdict-told _ _ _ _ (search calls) (search needs) (search needs))
+    (λ c. search needs)
+    (λ c. search needs)
+    (λ c. verdict-told _ _ _ _ (search calls) (search needs) (search needs)))

@@ -1,7 +1,7 @@
 use borrow.Author.Needs.{needs}
-use Rattle.effect_rules.proofs.Steps.{forms}
-use Rattle.effect_rules.proofs.form_of.Statement.{statement}
-use Rattle.effect_rules.proofs.form_of.Tie as tie
+use Rattle.row_effect.proofs.Steps.{forms}
+use Rattle.row_effect.proofs.form_of.Statement.{statement}
+use Rattle.row_effect.proofs.form_of.Tie as tie
 
 pub form-of-spec : {M : Type 1} → statement M
 form-of-spec =

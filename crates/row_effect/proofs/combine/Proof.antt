@@ -1,6 +1,6 @@
 use borrow.Author.Needs.{needs}
-use Rattle.effect_rules.proofs.combine.Statement.{statement}
-use Rattle.effect_rules.proofs.combine.Tie as tie
+use Rattle.row_effect.proofs.combine.Statement.{statement}
+use Rattle.row_effect.proofs.combine.Tie as tie
 
 pub combine-spec : {M : Type 1} → statement M
 combine-spec = tie.close (tie.spec (λ c κs. search needs) (λ c κs. search needs) (λ c κs. search needs) (λ c. cc))

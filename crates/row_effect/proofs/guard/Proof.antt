@@ -1,7 +1,7 @@
 use borrow.Author.Needs.{needs}
-use Rattle.effect_rules.proofs.Steps.{guard-writes, guard-reads, guard-clean}
-use Rattle.effect_rules.proofs.guard.Statement.{statement}
-use Rattle.effect_rules.proofs.guard.Tie as tie
+use Rattle.row_effect.proofs.Steps.{guard-writes, guard-reads, guard-clean}
+use Rattle.row_effect.proofs.guard.Statement.{statement}
+use Rattle.row_effect.proofs.guard.Tie as tie
 
 pub guard-spec : {M : Type 1} → statement M
 guard-spec =
