@@ -174,7 +174,7 @@ fn report(bytes: &[u8], loaded: Loaded, rows: &[u32], names: &[u32]) {
 }
 
 fn load_into(bytes: &[u8], rows: &mut [u32], names: &mut [u32]) {
-    let loaded = sheet::load(bytes, rows, names);
+    let loaded = load::load(bytes, rows, names);
     report(bytes, loaded, rows, names);
 }
 

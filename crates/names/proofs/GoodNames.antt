@@ -11,7 +11,7 @@ use Rattle.sections.proofs.ReadLaws.{NameEntry}
 use Rattle.sheet.specs.declared.Loaded.the-variants.{Done}
 use Rattle.sheet.specs.Load.{loadOf}
 use Rattle.sheet.specs.Meaning.{Asked}
-use Rattle.sheet.proofs.GoodLoad.{load-asked, load-entry}
+use Rattle.load.proofs.GoodLoad.{load-asked, load-entry}
 use Rattle.names.specs.NameText.{namePlace, partAt, textOf}
 
 part-within : (s : List ℕ) (at size : ℕ) → at + size ≤ length s → partAt s at size ≡ take size (drop at s)

@@ -1,7 +1,1 @@
-pub mod Zeros
 pub mod Reading
-pub mod Finishing
-pub mod Loading
-pub mod GoodLoad
-pub mod Refusals
-pub mod Sample

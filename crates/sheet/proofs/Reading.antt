@@ -13,14 +13,16 @@ use Rattle.sections.specs.declared.Section.the-variants as S
 use Rattle.sections.specs.Sections.{Lines, read, refused, namesFrom, rowsFrom}
 use Rattle.sections.specs.Filling.{sectionOf, Filled}
 use Rattle.sheet_record.specs.declared.Record.{Record}
+use Rattle.sheet.specs.declared.Refusal.{Refusal}
 use Rattle.sheet.specs.declared.Refusal.the-variants.{Line}
+use Rattle.sheet.specs.declared.Loaded.{Loaded}
 use Rattle.sheet.specs.declared.Loaded.the-variants.{Done, Refused}
 use Rattle.header.specs.declared.Head.{Head}
 use Rattle.header.specs.declared.Head.the-variants as H
 use Rattle.header.specs.declared.Facts.{Facts}
 use Rattle.header.specs.declared.Facts.the-variants as F
 use Rattle.header.specs.Header.{headOf, factsFrom}
-use Rattle.sheet.specs.Load.{Before, before, stopped, afterHead, afterNames, withNames, beforeRows, parsed, wrong, lineOf, linesOf}
+use Rattle.sheet.specs.Load.{recordOf, Before, before, stopped, afterHead, afterNames, withNames, beforeRows, parsed, wrong, lineOf, linesOf}
 use Rattle.sheet.specs.Steps.{factsOf, answerOf, NamesFilled, BothFilled}
 use Rattle.header.proofs.FactLaws.{FactsTold, head-told, facts-told}
 
@@ -228,5 +230,9 @@ module _ (s : List ℕ) (f : Facts) (p : f ≡ factsOf (beforeRows s)) where
                 let z : known .0 ≡ ns = cc in
                 let n : x .names ≡ r .names = ap (λ (m : Record). m .names) y in
                 ap (λ (m : ℕ). take (3 * m) names) n ∙ v .front r (known .0) at (known .1) (omega (arith, n, k)) ∙ z
+
+-- a refused answer has no record
+pub no-record : (a : Loaded) (refusal : Refusal) (line : ℕ) → a ≡ Refused refusal line → record { names = 0; rows = 0; local = 0; start = 0; sole = 0 } ≡ recordOf a
+no-record a refusal line e = rw e
 
 pub ruleset answers = (names-head, head-filled, names-section, section-filled, names-facts, names-filled, lines-before, before-filled, few-rows, few-names, lines-rows, rows-filled, lines-extra, extra-filled, lines-done, done-filled)

@@ -13,8 +13,8 @@ use Rattle.sheet.specs.declared.Refusal.{Refusal}
 use Rattle.sheet.specs.declared.Loaded.{Loaded}
 use Rattle.sheet.specs.declared.Loaded.the-variants as L
 use Rattle.sheet.specs.Load.{loadOf}
-use Rattle.sheet.proofs.GoodLoad.{GoodLoad, good-load, load-asked, load-tree, load-marks}
-use Rattle.sheet.proofs.Refusals.{load-number}
+use Rattle.load.proofs.GoodLoad.{GoodLoad, good-load, load-asked, load-tree, load-marks}
+use Rattle.load.proofs.Refusals.{load-number}
 use Rattle.answers.specs.declared.Answer.{Answer}
 use Rattle.answers.specs.declared.Answer.the-variants.{Refused}
 use Rattle.answers.specs.Answers.{AcceptedAnswer}

@@ -17,7 +17,7 @@ use Rattle.sections.specs.Sections.{linesFrom, nameStep, rowStep}
 use Rattle.header.specs.Header.{headOf, lastFacts, factsFrom}
 use Rattle.sheet_record.specs.Records.{recordFits, recordHeld, marksFit}
 use Rattle.sheet.specs.Load.{beforeRows, linesOf, refuse, tableOf, hasRoom, checkedAnswer, finishOf, loadOf}
-use Rattle.sheet.proofs.Sample.{line, listing}
+use Rattle.load.proofs.Sample.{line, listing}
 use Rattle.reads.specs.PathRows.{isNamed, begins, count, segments, isLocal, isMarked, isLoopJump}
 use Rattle.reads.specs.Mentions.{inRowOrder, passedOver, seenBelow, seenAt, seen, some, refers}
 use Rattle.reads.specs.NoRef.{stmtNoRef}

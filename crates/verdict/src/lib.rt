@@ -15,7 +15,7 @@ pub fn verdict(sheet: &[u8], rows: &mut [u32], names: &mut [u32]) -> Answer
     ensures name_table { λ r. ⌜ now (names .exit) ≡ loadOf (now (sheet .entry)) (length (now (rows .entry))) (length (now (names .entry))) .names ⌝ }
     ensures demand_3 { λ r. ⌜ VerdictMeans (now (sheet .entry)) r ⌝ }
 {
-    let loaded = sheet::load(sheet, rows, names);
+    let loaded = load::load(sheet, rows, names);
     match loaded {
         Loaded::Refused(refusal, line) => Answer::Refused(refusal, line),
         Loaded::Done(record) => ask::ask(record, rows, names),

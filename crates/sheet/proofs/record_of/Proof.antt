@@ -1,5 +1,5 @@
 use borrow.Author.Needs.{needs}
-use Rattle.sheet.proofs.Finishing.{no-record}
+use Rattle.sheet.proofs.Reading.{no-record}
 use Rattle.sheet.proofs.record_of.Statement.{statement}
 use Rattle.sheet.proofs.record_of.Tie as tie
 
@@ -9,5 +9,5 @@ record-of-spec =
     (tie.spec
     (λ c. search needs)
     (λ c. search needs)
-    (λ c. search (no-record, needs))
+    (λ c. search needs)
     (λ c. search (no-record, needs)))

@@ -1,7 +1,7 @@
 use borrow.Author.Needs.{needs}
-use Rattle.sheet.proofs.Zeros.{answers}
-use Rattle.sheet.proofs.clear_from.Statement.{statement}
-use Rattle.sheet.proofs.clear_from.Tie as tie
+use Rattle.load.proofs.Zeros.{answers}
+use Rattle.load.proofs.clear_from.Statement.{statement}
+use Rattle.load.proofs.clear_from.Tie as tie
 
 pub clear-from-spec : {M : Type 1} → statement M
 clear-from-spec =

@@ -1,7 +1,7 @@
 use borrow.Author.Needs.{needs}
-use Rattle.sheet.proofs.GoodLoad.{load-means}
-use Rattle.sheet.proofs.load.Statement.{statement}
-use Rattle.sheet.proofs.load.Tie as tie
+use Rattle.load.proofs.GoodLoad.{load-means}
+use Rattle.load.proofs.load.Statement.{statement}
+use Rattle.load.proofs.load.Tie as tie
 
 pub load-spec : {M : Type 1} → statement M
 load-spec =

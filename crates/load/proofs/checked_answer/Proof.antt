@@ -1,8 +1,8 @@
 use borrow.Author.Needs.{needs}
-use Rattle.sheet.proofs.Finishing.{answers}
+use Rattle.load.proofs.Finishing.{answers}
 use Rattle.checks.proofs.Places.{children-row}
-use Rattle.sheet.proofs.checked_answer.Statement.{statement}
-use Rattle.sheet.proofs.checked_answer.Tie as tie
+use Rattle.load.proofs.checked_answer.Statement.{statement}
+use Rattle.load.proofs.checked_answer.Tie as tie
 
 pub checked-answer-spec : {M : Type 1} → statement M
 checked-answer-spec =

@@ -12,12 +12,12 @@ use Rattle.checks.specs.declared.Checked.the-variants as C
 use Rattle.checks.specs.Checks.{childrenOf}
 use Rattle.checks.proofs.Places.{children-row}
 use Rattle.sheet_record.specs.declared.Record.{Record}
 use Rattle.sheet.specs.declared.Refusal.{Refusal}
 use Rattle.sheet.specs.declared.Refusal.the-variants.{NoRoom, Rows}
 use Rattle.sheet.specs.declared.Loaded.{Loaded}
 use Rattle.sheet.specs.declared.Loaded.the-variants.{Done, Refused}
-use Rattle.sheet.specs.Load.{recordOf, lineOf, Result, refuse, tableOf, hasRoom, checkedAnswer, withTables, finishOf}
+use Rattle.sheet.specs.Load.{lineOf, Result, refuse, tableOf, hasRoom, checkedAnswer, withTables, finishOf}
 use Rattle.sheet.specs.Steps.{Room, GoodFilled, finishFronts}
 
 -- an answer that is refused is not a record
 pub never : {A : Type 0} {refusal : Refusal} {line : ℕ} {r : Record} → Refused refusal line ≡ Done r → A
@@ -81,8 +81,4 @@ module _ (r : Record) (rows : List ℕ) (c : Checked) (s : c ≡ childrenOf rows
   unfolding checkedAnswer
   check-refused fault row e line l = rw (← s, e, l)
 
--- a refused answer has no record
-pub no-record : (a : Loaded) (refusal : Refusal) (line : ℕ) → a ≡ Refused refusal line → record { names = 0; rows = 0; local = 0; start = 0; sole = 0 } ≡ recordOf a
-no-record a refusal line e = rw e
-
-pub ruleset answers = (no-record, refused-filled, rows-short, names-short, has-room, settle-answer, settle-tables, check-passed, check-refused, children-row)
+pub ruleset answers = (refused-filled, rows-short, names-short, has-room, settle-answer, settle-tables, check-passed, check-refused, children-row)

@@ -1,7 +1,7 @@
 use borrow.Author.Needs.{needs}
-use Rattle.sheet.proofs.Loading.{answers}
-use Rattle.sheet.proofs.fill.Statement.{statement}
-use Rattle.sheet.proofs.fill.Tie as tie
+use Rattle.load.proofs.Loading.{answers}
+use Rattle.load.proofs.fill.Statement.{statement}
+use Rattle.load.proofs.fill.Tie as tie
 
 pub fill-spec : {M : Type 1} → statement M
 fill-spec =

@@ -21,15 +21,15 @@ use Rattle.lines.specs.Lines.{jumpMark}
 use Rattle.sheet_record.specs.declared.Record.{Record}
 use Rattle.sheet_record.specs.Records.{recordFits, markAt, textAt}
 use Rattle.sections.proofs.ReadLaws.{NameEntry, names-length, names-entry, names-ascend, rows-length, rows-kind, rows-side, entry-append, text-append}
 use Rattle.sheet.specs.declared.Refusal.{Refusal}
 use Rattle.sheet.specs.declared.Refusal.the-variants.{TooLong, Line, NoRoom}
 use Rattle.sheet.specs.declared.Loaded.{Loaded}
 use Rattle.sheet.specs.declared.Loaded.the-variants.{Done, Refused}
 use Rattle.sheet.specs.Load.{Parsed, parsed, wrong, linesOf, Result, refuse, tableOf, hasRoom, afterChecks, checkedAnswer, withTables, finishOf, afterParse, loadOf}
 use Rattle.sheet.specs.Meaning.{Asked, LoadMeans}
 use Rattle.sheet.proofs.Reading.{RecordTold, BeforeParts, before-parts}
-use Rattle.sheet.proofs.Finishing.{never, answered}
-use Rattle.sheet.proofs.Loading.{LinesTold, lines-told, record-told, refused-load}
+use Rattle.load.proofs.Finishing.{never, answered}
+use Rattle.load.proofs.Loading.{LinesTold, lines-told, record-told, refused-load}
 
 -- the lines, the room and the checks of a good load, and its tables
 pub record GoodLoad (s : List ℕ) (rowRoom nameRoom : ℕ) (r : Record) : Type 0 where

@@ -1,7 +1,7 @@
 use borrow.Author.Needs.{needs}
-use Rattle.sheet.proofs.Finishing.{answers}
-use Rattle.sheet.proofs.finish.Statement.{statement}
-use Rattle.sheet.proofs.finish.Tie as tie
+use Rattle.load.proofs.Finishing.{answers}
+use Rattle.load.proofs.finish.Statement.{statement}
+use Rattle.load.proofs.finish.Tie as tie
 
 pub finish-spec : {M : Type 1} → statement M
 finish-spec =

@@ -1,9 +1,9 @@
 use borrow.Author.Needs.{needs}
 use Prim.Native.Nat.{_-_}
 use lib.ListN.{length}
-use Rattle.sheet.proofs.Zeros.{Clearing, answers}
-use Rattle.sheet.proofs.clear.Statement.{statement}
-use Rattle.sheet.proofs.clear.Tie as tie
+use Rattle.load.proofs.Zeros.{Clearing, answers}
+use Rattle.load.proofs.clear.Statement.{statement}
+use Rattle.load.proofs.clear.Tie as tie
 
 abbrev Inv-loop : tie.InvT-loop
 Inv-loop t₀ i₀ t i = Clearing t₀ t i

@@ -1,7 +1,7 @@
 use borrow.Author.Needs.{needs}
-use Rattle.sheet.proofs.Finishing.{settle-answer, settle-tables}
-use Rattle.sheet.proofs.settle.Statement.{statement}
-use Rattle.sheet.proofs.settle.Tie as tie
+use Rattle.load.proofs.Finishing.{settle-answer, settle-tables}
+use Rattle.load.proofs.settle.Statement.{statement}
+use Rattle.load.proofs.settle.Tie as tie
 
 pub settle-spec : {M : Type 1} → statement M
 settle-spec =

@@ -17,14 +17,14 @@ use Rattle.lines.specs.declared.Fault.the-variants.{WrongLine, WrongNumber, Out
 use Rattle.lines.specs.Lines.{faultNumber}
 use Rattle.sheet_record.specs.declared.Record.{Record}
 use Rattle.sections.proofs.ReadLaws.{rows-length}
 use Rattle.sheet.specs.declared.Refusal.{Refusal}
 use Rattle.sheet.specs.declared.Refusal.the-variants.{TooLong, NoRoom}
 use Rattle.sheet.specs.declared.Loaded.{Loaded}
 use Rattle.sheet.specs.declared.Loaded.the-variants.{Done, Refused}
 use Rattle.sheet.specs.Load.{refusalNumber, Parsed, parsed, wrong, linesOf, refuse, tableOf, hasRoom, afterChecks, checkedAnswer, withTables, finishOf, afterParse, loadOf}
-use Rattle.sheet.proofs.Finishing.{answered}
-use Rattle.sheet.proofs.Loading.{lines-told, record-told}
-use Rattle.sheet.proofs.GoodLoad.{table-length}
+use Rattle.load.proofs.Finishing.{answered}
+use Rattle.load.proofs.Loading.{lines-told, record-told}
+use Rattle.load.proofs.GoodLoad.{table-length}
 
 -- an answer whose refusal, if it has one, has such a number
 abbrev OfInput : Loaded → Type 0

@@ -1,7 +1,7 @@
 use borrow.Author.Needs.{needs}
-use Rattle.sheet.proofs.Loading.{answers}
-use Rattle.sheet.proofs.load_tables.Statement.{statement}
-use Rattle.sheet.proofs.load_tables.Tie as tie
+use Rattle.load.proofs.Loading.{answers}
+use Rattle.load.proofs.load_tables.Statement.{statement}
+use Rattle.load.proofs.load_tables.Tie as tie
 
 pub load-tables-spec : {M : Type 1} → statement M
 load-tables-spec =

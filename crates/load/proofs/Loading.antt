@@ -11,14 +11,14 @@ use Rattle.lines.specs.declared.Fault.the-variants.{WrongLine}
 use Rattle.sections.specs.Sections.{Lines, read, refused, rowsFrom}
 use Rattle.sections.specs.Filling.{Short}
 use Rattle.sheet_record.specs.declared.Record.{Record}
 use Rattle.sheet.specs.declared.Refusal.{Refusal}
 use Rattle.sheet.specs.declared.Refusal.the-variants.{TooLong, Line, NoRoom}
 use Rattle.sheet.specs.declared.Loaded.{Loaded}
 use Rattle.sheet.specs.declared.Loaded.the-variants.{Done, Refused}
 use Rattle.sheet.specs.Load.{Before, before, stopped, beforeRows, Parsed, parsed, wrong, afterBefore, afterRows, lineOf, linesOf, Result, refuse, tableOf, hasRoom, checkedAnswer, withTables, finishOf, afterParse, loadOf}
 use Rattle.sheet.specs.Steps.{answerOf, BothFilled, GoodFilled, finishFronts, isRefused}
 use Rattle.sheet.proofs.Reading.{RecordTold, before-told}
-use Rattle.sheet.proofs.Finishing.{never, refused-filled}
+use Rattle.load.proofs.Finishing.{never, refused-filled}
 
 apart : {A : Type 0} → _≡_ {A = ℕ} 0 1 → A
 apart z = absurd (omega (arith, z))
