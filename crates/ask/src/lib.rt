@@ -20,7 +20,7 @@ fn table_checked(record: Record, rows: &[u32]) -> Checked
     let Checked::Passed = fields else {
         return fields;
     };
-    checks::children(rows, record.rows)
+    child_checks::children(rows, record.rows)
 }
 
 fn walk_answer(result: DaResult) -> Answer

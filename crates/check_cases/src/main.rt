@@ -30,7 +30,7 @@ fn report(title: &[u8], rows: &[u32], count: usize, names: usize) {
     say(title);
     answer(b": fields ", checks::fields(rows, count, names));
     answer(b", ends ", checks::ends(rows, count));
-    answer(b", children ", checks::children(rows, count));
+    answer(b", children ", child_checks::children(rows, count));
     say(b"\n");
 }
 

@@ -4,7 +4,6 @@ pub mod FieldLaws
 pub mod Enclosing
 pub mod Kept
 pub mod Nest
-pub mod ChildLaws
 pub mod Passed
 pub mod Listing
 pub mod Places

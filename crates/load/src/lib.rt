@@ -33,7 +33,7 @@ fn checked_answer(record: Record, rows: &[u32]) -> Loaded
     requires { ⌜ «record» .names ≤ 500 ⌝ }
     ensures { λ r. ⌜ r ≡ checkedAnswer «record» (now (rows .entry)) ⌝ }
 {
-    let checked = checks::children(rows, record.rows);
+    let checked = child_checks::children(rows, record.rows);
     match checked {
         Checked::Passed => Loaded::Done(record),
         Checked::Refused(fault, row) => Loaded::Refused(

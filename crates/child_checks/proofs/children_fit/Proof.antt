@@ -1,9 +1,9 @@
 use borrow.Author.Needs.{needs}
 use Prim.Native.Nat.{_+_, _-_}
 use Rattle.checks.specs.Checks.{childrenFit}
-use Rattle.checks.proofs.ChildLaws.{Fitting, fitting}
-use Rattle.checks.proofs.children_fit.Statement.{statement}
-use Rattle.checks.proofs.children_fit.Tie as tie
+use Rattle.child_checks.proofs.ChildLaws.{Fitting, fitting}
+use Rattle.child_checks.proofs.children_fit.Statement.{statement}
+use Rattle.child_checks.proofs.children_fit.Tie as tie
 
 abbrev Inv-loop : tie.InvT-loop
 Inv-loop rows i to items end left₀ child₀ left child = Fitting rows end child left (childrenFit rows i)

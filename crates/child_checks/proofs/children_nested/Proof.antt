@@ -1,10 +1,10 @@
 use borrow.Author.Needs.{needs}
 use Prim.Native.Nat.{_-_}
 use Rattle.checks.specs.Checks.{childrenAt}
 use Rattle.checks.proofs.Rows.{Checking}
-use Rattle.checks.proofs.ChildLaws.{answers}
-use Rattle.checks.proofs.children_nested.Statement.{statement}
-use Rattle.checks.proofs.children_nested.Tie as tie
+use Rattle.child_checks.proofs.ChildLaws.{answers}
+use Rattle.child_checks.proofs.children_nested.Statement.{statement}
+use Rattle.child_checks.proofs.children_nested.Tie as tie
 
 abbrev Inv-loop : tie.InvT-loop
 Inv-loop rows count entries i₀ i = Checking (childrenAt rows) count i

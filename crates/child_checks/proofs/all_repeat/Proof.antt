@@ -1,7 +1,7 @@
 use borrow.Author.Needs.{needs}
-use Rattle.checks.proofs.ChildLaws.{Ending, ending}
-use Rattle.checks.proofs.all_repeat.Statement.{statement}
-use Rattle.checks.proofs.all_repeat.Tie as tie
+use Rattle.child_checks.proofs.ChildLaws.{Ending, ending}
+use Rattle.child_checks.proofs.all_repeat.Statement.{statement}
+use Rattle.child_checks.proofs.all_repeat.Tie as tie
 
 abbrev Inv-loop : tie.InvT-loop
 Inv-loop items left₀ left = Ending items left

@@ -1,7 +1,7 @@
 use borrow.Author.Needs.{needs}
-use Rattle.checks.proofs.ChildLaws.{whole}
-use Rattle.checks.proofs.children.Statement.{statement}
-use Rattle.checks.proofs.children.Tie as tie
+use Rattle.child_checks.proofs.ChildLaws.{whole}
+use Rattle.child_checks.proofs.children.Statement.{statement}
+use Rattle.child_checks.proofs.children.Tie as tie
 
 pub children-spec : {M : Type 1} → statement M
 children-spec =
