@@ -177,7 +177,7 @@ pub fn digest(numbers: &[u32]) -> usize
 pub fn kind(word: &[u8]) -> u32
     ensures { λ r. ⌜ r ≡ kindNumber (kindOf (now (word .entry))) ⌝ }
 {
-    let found = kinds::find_kind(word);
+    let found = words::find_kind(word);
     match found {
         Found::Is(k) => k,
         Found::Unknown => 66,

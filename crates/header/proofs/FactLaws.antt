@@ -115,7 +115,7 @@ facts-told names s at r next e =
     let b = followed (numberLine (bytes "start=") 0 1 s (a .then)) (names + 4) _ r next (a .rest) in
     let c = followed (numberLine (bytes "sole=") 0 1 s (b .then)) (names + 5) _ r next (b .rest) in
     let d = followed (numberLine (bytes "rows=") 1 2000 s (c .then)) (names + 6) _ r next (c .rest) in
-    let i : record { names = names; rows = d .value; local = a .value; start = b .value; sole = c .value } ≡ r = same-record _ (d .then) r next (d .rest) in
+    let i : record { names = names; rows = d .value; local = a .value; start = b .value; sole = c .value } ≡ r = same-record (record { names = names; rows = d .value; local = a .value; start = b .value; sole = c .value }) (d .then) r next (d .rest) in
     rw (← i)
     (record {
       same = refl;

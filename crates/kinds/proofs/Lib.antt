@@ -2,7 +2,5 @@ pub mod Below
 pub mod Numbers
 pub mod Items
 pub mod Steps
-pub mod Keys
-pub mod Words
 pub mod Named
 pub mod Classes

@@ -1,15 +1,11 @@
 -- The numbers that the code keeps for an entry of the table, and how it reads them. Nothing here is document 01's: that
--- these numbers say what the list says is proved in proofs/Numbers and proofs/Words.
-use Prim.Native.Nat.{ℕ, zero, suc, _+_, _-_, _*_, _/_, _%_}
-use mathlib.Core.Path.{_≡_}
+-- these numbers say what the list says is proved in proofs/Numbers.
+use Prim.Native.Nat.{ℕ, suc, _+_, _*_, _/_, _%_}
 use mathlib.Core.Bool.{Bool, true, false, cond, _&&_, _||_}
 use mathlib.Core.List.{List, [], _∷_}
-use lib.ListN.{take, drop}
 use lib.Dec.{eqb, leb, ltb}
 use Rattle.kinds.specs.declared.Kind.{Kind}
-use Rattle.kinds.specs.declared.Found.{Found}
 use Rattle.kinds.specs.Kinds.{Class, Sides, zero-only, up-to, name-number, Item, Entry, kinds, ofClass}
-use Rattle.kinds.specs.Words.{kindOf}
 
 -- how many side numbers there are; 0 stands for as many as there are names
 unfoldable pub sidesNumber : Sides → ℕ
@@ -70,38 +66,3 @@ afterFirst items = cond (repeatsFirst items) items (restFirst items)
 
 unfoldable pub numbers : Entry → Kind
 numbers e = record { sides = sidesNumber (e .sides); children = itemsNumber (e .children) }
-
--- five bits a letter, the first letter lowest
-unfoldable pub key : List ℕ → ℕ
-key [] = 0
-key (b ∷ w) = (b - 96) + 32 * key w
-
-unfoldable pub isLetter : ℕ → Bool
-isLetter b = leb 97 b && leb b 122
-
-unfoldable pub letters : List ℕ → Bool
-letters [] = true
-letters (b ∷ w) = isLetter b && letters w
-
--- how many of the first n bytes are small letters, before the first other one
-unfoldable pub lettersUpTo : ℕ → List ℕ → ℕ
-lettersUpTo zero t = zero
-lettersUpTo (suc n) [] = zero
-lettersUpTo (suc n) (b ∷ t) = cond (isLetter b) (suc (lettersUpTo n t)) zero
-
--- these letters
-abbrev pub lettersOf : ℕ → List ℕ → List ℕ
-lettersOf n t = take (lettersUpTo n t) t
-
--- the place twelve bytes on, or the end where that comes first
-unfoldable pub twelveFrom : ℕ → ℕ → ℕ
-twelveFrom size at = cond (leb (at + 12) size) (at + 12) size
-
--- what `key_at` and `find_kind_at` tell of the letters from a place on
-pub record KeyTold (s : List ℕ) (at value stop : ℕ) : Type 0 where
-  pub is : value ≡ key (lettersOf 12 (drop at s))
-  pub past : stop ≡ at + lettersUpTo 12 (drop at s)
-
-pub record KindTold (s : List ℕ) (at : ℕ) (kind : Found) (stop : ℕ) : Type 0 where
-  pub word : kind ≡ kindOf (lettersOf 12 (drop at s))
-  pub past : stop ≡ at + lettersUpTo 12 (drop at s)

@@ -12,7 +12,7 @@ use Rattle.kinds.specs.Kinds.{bytes, entry, sideFits}
 use Rattle.kinds.specs.Words.{kindOf}
 use Rattle.kinds.specs.declared.Found.{Found}
 use Rattle.kinds.specs.declared.Found.the-variants.{Is, Unknown}
-use Rattle.kinds.proofs.Words.{found-below}
+use Rattle.words.proofs.Words.{found-below}
 use Rattle.text.specs.Fields.{fieldLength, fieldOf, field, stopAt, stands, endsBy, after, startsWith, below, allGraphic}
 use Rattle.text.specs.Numbers.{Spelled, is, none, numberOf}
 use Rattle.lines.specs.declared.Fault.{Fault}

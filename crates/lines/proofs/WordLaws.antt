@@ -8,11 +8,11 @@ use native.Mathlib.Omega.{arith}
 use lib.Dec.{leb}
 use lib.ListN.{length, drop}
 use borrow.Author.Tests.{leb-true, ne-eqb}
-use Rattle.kinds.specs.Numbers.{isLetter, lettersUpTo, lettersOf, KindTold}
+use Rattle.words.specs.Keys.{isLetter, lettersUpTo, lettersOf, KindTold}
 use Rattle.kinds.specs.Words.{kindOf}
 use Rattle.kinds.specs.declared.Found.{Found}
 use Rattle.kinds.specs.declared.Found.the-variants.{Unknown}
-use Rattle.kinds.proofs.Words.{not-whole}
+use Rattle.words.proofs.Words.{not-whole}
 use Rattle.text.specs.Fields.{isStop, fieldLength, fieldOf, field, stopAt, stands, afterByte, endsBy}
 use Rattle.text.specs.Runs.{nextField}
 use Rattle.text.proofs.Stops.{byte-stands, byte-missing}

@@ -173,7 +173,7 @@ pub fn name_line(s: &[u8], at: usize, before: &[u8]) -> NameLine
 fn kind_field(s: &[u8], at: usize) -> KindField
     ensures { λ r. ⌜ KindRead (now (s .entry)) at (r .kind) (r .next) ⌝ }
 {
-    let read = kinds::find_kind_at(s, at);
+    let read = words::find_kind_at(s, at);
     let stop = read.stop;
     let next = text::after_byte(s, stop, b' ');
     if next != 0 {

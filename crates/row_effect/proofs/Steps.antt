@@ -58,6 +58,8 @@ module _ (row : RowEffect) where
   pub guard-clean : row .effect ≡ Clean → _≡_ {A = ExprEffect} (record { effect = Clean; «when_true» = row .«operands_true»; «when_false» = row .«operands_false» }) (guarded row)
   guard-clean e = rw e
 
+pub ruleset guards = (guard-writes, guard-reads, guard-clean)
+
 -- the form of a row
 pub form-row : (k s : ℕ) (n : ExprClass) (i j : ℕ) (m : Form) → k ≡ i → n ≡ exprClass k → s ≡ j → m ≡ formOf n s → m ≡ formOf (exprClass i) j
 form-row k s n i j m p q r e = rw (← p, ← r, ← q) e

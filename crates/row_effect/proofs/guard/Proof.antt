@@ -1,5 +1,5 @@
 use borrow.Author.Needs.{needs}
-use Rattle.row_effect.proofs.Steps.{guard-writes, guard-reads, guard-clean}
+use Rattle.row_effect.proofs.Steps.{guards}
 use Rattle.row_effect.proofs.guard.Statement.{statement}
 use Rattle.row_effect.proofs.guard.Tie as tie
 
@@ -10,6 +10,6 @@ guard-spec =
     (λ c. search needs)
     (λ c. search needs)
     (λ c. search needs)
-    (λ c. search (guard-writes, guard-reads, guard-clean))
-    (λ c. search (guard-writes, guard-reads, guard-clean))
-    (λ c. search (guard-writes, guard-reads, guard-clean)))
+    (λ c. search guards)
+    (λ c. search guards)
+    (λ c. search guards))

@@ -9,14 +9,14 @@ use lib.ListN.{length, getD, drop}
 use lib.Seq.{take-length}
 use lib.Dec.{eqb, leb, ltb}
 use borrow.Author.Tests.{eqb-true, leb-true, ltb-true}
 use Rattle.kinds.specs.declared.Found.{Found}
 use Rattle.kinds.specs.declared.Found.the-variants.{Is, Unknown}
 use Rattle.kinds.specs.Kinds.{Entry, kinds, noEntry, entry}
 use Rattle.kinds.specs.Words.{same, placeFrom, kindOf}
-use Rattle.kinds.specs.Numbers.{key, letters, isLetter, lettersUpTo, lettersOf, KeyTold, KindTold}
+use Rattle.words.specs.Keys.{key, letters, isLetter, lettersUpTo, lettersOf, KeyTold, KindTold}
 use Rattle.kinds.proofs.Below.{true-not-false, both-true, everyBelow, below}
-use Rattle.kinds.proofs.Keys.{one-word, letters-read, whole-word}
+use Rattle.words.proofs.Keys.{one-word, letters-read, whole-word}
 use Rattle.kinds.proofs.Numbers.{kinds-count}
 
 abbrev wordOf : ℕ → List ℕ
 wordOf k = entry k .word

@@ -13,8 +13,8 @@ use lib.Dec.{leb}
 use borrow.Author.Tests.{leb-true, leb-false, le-leb, lt-leb}
 use mir.Val.{Fits}
 use mir.Syntax.{w64}
-use Rattle.kinds.specs.Numbers.{key, letters, isLetter, lettersUpTo, lettersOf, twelveFrom, KeyTold}
+use Rattle.words.specs.Keys.{key, letters, isLetter, lettersUpTo, lettersOf, twelveFrom, KeyTold}
 use Rattle.kinds.proofs.Below.{both-true}
 
 record Letter (b : ℕ) : Type 0 where
   low : 97 ≤ b

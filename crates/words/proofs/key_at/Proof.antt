@@ -1,8 +1,8 @@
 use Prim.Native.Nat.{_-_}
 use borrow.Author.Needs.{needs}
-use Rattle.kinds.proofs.Keys.{Spelling, answers}
-use Rattle.kinds.proofs.key_at.Statement.{statement}
-use Rattle.kinds.proofs.key_at.Tie as tie
+use Rattle.words.proofs.Keys.{Spelling, answers}
+use Rattle.words.proofs.key_at.Statement.{statement}
+use Rattle.words.proofs.key_at.Tie as tie
 
 abbrev Inv-loop : tie.InvT-loop
 Inv-loop s at end i₀ value₀ scale₀ i value scale = Spelling s at i value scale

@@ -1,9 +1,9 @@
 use mathlib.Core.Path.{refl}
 use Rattle.kinds.specs.Kinds.{kinds, entry}
-use Rattle.kinds.specs.Numbers.{key}
-use Rattle.kinds.proofs.Words.{arm, no-arm, Differs}
-use Rattle.kinds.proofs.kind_of_key.Statement.{statement}
-use Rattle.kinds.proofs.kind_of_key.Tie as tie
+use Rattle.words.specs.Keys.{key}
+use Rattle.words.proofs.Words.{arm, no-arm, Differs}
+use Rattle.words.proofs.kind_of_key.Statement.{statement}
+use Rattle.words.proofs.kind_of_key.Tie as tie
 
 pub kind-of-key-spec : {M : Type 1} → statement M
 unfolding kinds entry key Differs

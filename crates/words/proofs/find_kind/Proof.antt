@@ -1,7 +1,7 @@
 use borrow.Author.Needs.{needs}
-use Rattle.kinds.proofs.Words.{answers}
-use Rattle.kinds.proofs.find_kind.Statement.{statement}
-use Rattle.kinds.proofs.find_kind.Tie as tie
+use Rattle.words.proofs.Words.{answers}
+use Rattle.words.proofs.find_kind.Statement.{statement}
+use Rattle.words.proofs.find_kind.Tie as tie
 
 pub find-kind-spec : {M : Type 1} → statement M
 find-kind-spec = tie.close (tie.spec (λ c κs. search needs) (λ c. search answers) (λ c. search answers))
