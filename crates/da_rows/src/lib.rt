@@ -257,7 +257,7 @@ pub fn case_out(has_default: bool, after: bool, all: DaOut) -> DaOut
     DaOut::Falls(after)
 }
 
-// All is written where it was before, or where the test says so.
+// What held before holds still, and so does what a test adds: a write, or that a case has a default.
 pub fn gains(wrote: bool, assigned: bool) -> bool
     ensures { λ r. ⌜ r ≡ assigned || wrote ⌝ }
 {

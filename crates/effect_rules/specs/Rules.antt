@@ -126,18 +126,6 @@ guarded r = record {
   «when_false» = selfGuarded (r .effect) (r .«operands_false»);
 }
 
--- the form that the reference test decides
-abbrev pub isVetted : Form → Bool
-isVetted Vetted = true
-isVetted CallWrites = false
-isVetted Inner = false
-isVetted LogNot = false
-isVetted Operand = false
-isVetted LogAnd = false
-isVetted LogOr = false
-isVetted Operands = false
-isVetted Arms = false
-
 -- the forms whose operands are not looked at one by one
 abbrev pub isWhole : Form → Bool
 isWhole Vetted = true

@@ -18,20 +18,20 @@ use Rattle.expr_effect.specs.declared.Places.{Places}
 use Rattle.expr_effect.specs.Places.{PlacesTold}
 use Rattle.effect_rules.specs.declared.Form.{Form}
 use Rattle.effect_rules.specs.declared.Form.the-variants.{Inner, LogNot, Operand, LogAnd, LogOr, Operands, Arms, CallWrites, Vetted}
-use Rattle.effect_rules.specs.Rules.{combined, guarded, isWhole, isVetted, noEffect, noRowEffect}
+use Rattle.effect_rules.specs.Rules.{combined, guarded, isWhole, noEffect, noRowEffect}
 use Rattle.expr_effect.specs.Effect.{exprEffectAt, exprEffectOf, unguarded}
 
--- where the reference test does not decide, its answer does not matter
-unvetted : (m : Form) (n p : Bool) (a b c : ExprEffect) → isVetted m ≡ false → combined m n a b c ≡ combined m p a b c
-unvetted Inner n p a b c e = refl
-unvetted LogNot n p a b c e = refl
-unvetted Operand n p a b c e = refl
-unvetted LogAnd n p a b c e = refl
-unvetted LogOr n p a b c e = refl
-unvetted Operands n p a b c e = refl
-unvetted Arms n p a b c e = refl
-unvetted CallWrites n p a b c e = refl
-unvetted Vetted n p a b c e = true-not-false e
+-- where the operands are looked at one by one, the reference test does not matter
+untested : (m : Form) (n p : Bool) (a b c : ExprEffect) → isWhole m ≡ false → combined m n a b c ≡ combined m p a b c
+untested Inner n p a b c e = refl
+untested LogNot n p a b c e = refl
+untested Operand n p a b c e = refl
+untested LogAnd n p a b c e = refl
+untested LogOr n p a b c e = refl
+untested Operands n p a b c e = refl
+untested Arms n p a b c e = refl
+untested CallWrites n p a b c e = true-not-false e
+untested Vetted n p a b c e = true-not-false e
 
 -- where the operands are not looked at, they do not matter
 unasked : (m : Form) (n : Bool) (a b c d e f : ExprEffect) → isWhole m ≡ true → combined m n a b c ≡ combined m n d e f
@@ -45,29 +45,17 @@ unasked LogOr n a b c d e f w = true-not-false (sym w)
 unasked Operands n a b c d e f w = true-not-false (sym w)
 unasked Arms n a b c d e f w = true-not-false (sym w)
 
--- a form that the reference test decides is one that does not look at its operands
-part-unvetted : (m : Form) → isWhole m ≡ false → isVetted m ≡ false
-part-unvetted Inner w = refl
-part-unvetted LogNot w = refl
-part-unvetted Operand w = refl
-part-unvetted LogAnd w = refl
-part-unvetted LogOr w = refl
-part-unvetted Operands w = refl
-part-unvetted Arms w = refl
-part-unvetted CallWrites w = refl
-part-unvetted Vetted w = w
-
 not-not : (b : Bool) → not (not b) ≡ b
 not-not true = refl
 not-not false = refl
 
 -- what `whole` answers
-module _ (x : ℕ) (rows : List ℕ) (from to : ℕ) (m : Form) (v : Bool) (r : RowEffect) (none : ExprEffect) (pv : v ≡ isVetted m) (pn : none ≡ noEffect) where
-  pub whole-vetted : (clear : Bool) → v ≡ true → clear ≡ exprNoRef x (tree rows from to) → r ≡ combined m (not clear) none none none → r ≡ combined m (refers Skipped x (tree rows from to)) noEffect noEffect noEffect
-  whole-vetted clear q pc p = p ∙ rw (pn, pc, not-not (refers Skipped x (tree rows from to)))
-
-  pub whole-writes : v ≡ false → r ≡ combined m false none none none → r ≡ combined m (refers Skipped x (tree rows from to)) noEffect noEffect noEffect
-  whole-writes q p = p ∙ rw pn (unvetted m false (refers Skipped x (tree rows from to)) noEffect noEffect noEffect (sym pv ∙ q))
+pub whole-told : (x : ℕ) (rows : List ℕ) (from to : ℕ) (m : Form) (clear : Bool) (r : RowEffect) (none : ExprEffect)
+    → none ≡ noEffect
+    → clear ≡ exprNoRef x (tree rows from to)
+    → r ≡ combined m (not clear) none none none
+    → r ≡ combined m (refers Skipped x (tree rows from to)) noEffect noEffect noEffect
+whole-told x rows from to m clear r none pn pc p = p ∙ rw (pn, pc, not-not (refers Skipped x (tree rows from to)))
 
 -- no row
 pub unguarded-none : (x : ℕ) (rows : List ℕ) (from to : ℕ) → to ≤ from → noRowEffect ≡ unguarded x (tree rows from to)
@@ -97,7 +85,7 @@ module _ (x : ℕ) (rows : List ℕ) (from to : ℕ) (o : Places) (w : Bool) (r 
       let vb : b ≡ exprEffectOf x (tree rows (from + 1) (o .end)) 1 = pb ∙ fold-next (exprEffectAt x) noEffect 0 (po .first) (po .second) in
       let vc : c ≡ exprEffectOf x (tree rows (from + 1) (o .end)) 2 =
       pc ∙ fold-next (exprEffectAt x) noEffect 0 (po .from-second) (po .third) ∙ fold-next (exprEffectAt x) noEffect 1 (po .first) (po .second) in
-      p ∙ rw (pa, vb, vc) (unvetted (o .form) false (refers Skipped x (tree rows from (o .end))) _ _ _ (part-unvetted (o .form) (sym pw ∙ q))) ∙ sym first
+      p ∙ rw (pa, vb, vc) (untested (o .form) false (refers Skipped x (tree rows from (o .end))) _ _ _ (sym pw ∙ q)) ∙ sym first
 
 pub effect-first : (x : ℕ) (f : Forest) → exprEffectOf x f 0 ≡ guarded (unguarded x f)
 unfolding unguarded fold exprEffectAt
@@ -122,4 +110,4 @@ module _ (rows : List ℕ) (from to : ℕ) (o : Places) (po : PlacesTold rows fr
   pub third-less : 2 * (o .end - o .third) + 1 < u
   third-less = less (o .third) (po .third-after)
 
-pub ruleset answers = (whole-vetted, whole-writes, unguarded-none, unguarded-whole, unguarded-operands, effect-guarded, first-less, second-less, third-less)
+pub ruleset answers = (whole-told, unguarded-none, unguarded-whole, unguarded-operands, effect-guarded, first-less, second-less, third-less)

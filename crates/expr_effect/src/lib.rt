@@ -51,17 +51,15 @@ fn operands_of(rows: &[u32], i: usize, to: usize) -> Places
     }
 }
 
-// A row whose operands are not looked at one by one: a call that writes, or what the reference test decides.
+// A row whose operands are not looked at one by one: a call that writes, of which the reference test tells nothing, or what that
+// test decides.
 fn whole(rows: &[u32], local: usize, form: Form, from: usize, to: usize) -> RowEffect
     requires { ⌜ Nested (now rows) from to ⌝ }
     ensures { λ r. ⌜ r ≡ combined form (refers Skipped local (tree (now (rows .entry)) from to)) noEffect noEffect noEffect ⌝ }
 {
     let none = row_effect::nothing();
-    if row_effect::is_vetted(form) {
-        let clear = reads::expr_no_ref(rows, local, from, to);
-        return row_effect::combine(form, !clear, none, none, none);
-    }
-    row_effect::combine(form, false, none, none, none)
+    let clear = reads::expr_no_ref(rows, local, from, to);
+    row_effect::combine(form, !clear, none, none, none)
 }
 
 // The effect of the first of the rows from `from` up to `to`, and what its operands write. The operands are asked for effect

@@ -5,7 +5,7 @@ use effect_rules::Form;
 use effect_rules::RowEffect;
 use kinds::ExprClass;
 ghost use mathlib.Core.Path.{_≡_};
-ghost use Rattle.effect_rules.specs.Rules.{unaryForm, binaryForm, callForm, formOf, combined, guarded, isWhole, isVetted, noEffect};
+ghost use Rattle.effect_rules.specs.Rules.{unaryForm, binaryForm, callForm, formOf, combined, guarded, isWhole, noEffect};
 
 fn unary_form(side: usize) -> Form
     ensures { λ r. ⌜ r ≡ unaryForm side ⌝ }
@@ -61,23 +61,6 @@ pub fn is_whole(form: Form) -> bool
     match form {
         Form::CallWrites => true,
         Form::Vetted => true,
-        Form::Inner => false,
-        Form::LogNot => false,
-        Form::Operand => false,
-        Form::LogAnd => false,
-        Form::LogOr => false,
-        Form::Operands => false,
-        Form::Arms => false,
-    }
-}
-
-// The form that the reference test decides.
-pub fn is_vetted(form: Form) -> bool
-    ensures { λ r. ⌜ r ≡ isVetted form ⌝ }
-{
-    match form {
-        Form::Vetted => true,
-        Form::CallWrites => false,
         Form::Inner => false,
         Form::LogNot => false,
         Form::Operand => false,

@@ -10,7 +10,4 @@ whole-spec =
     (λ c κs. search needs)
     (λ c κs. search needs)
     (λ c κs. search needs)
-    (λ c κs. search needs)
-    (λ c. search answers)
-    (λ c κs. search needs)
     (λ c. search answers))
