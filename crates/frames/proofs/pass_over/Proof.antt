@@ -1,6 +1,6 @@
 use borrow.Author.Needs.{needs}
-use Rattle.batch.proofs.pass_over.Statement.{statement}
-use Rattle.batch.proofs.pass_over.Tie as tie
+use Rattle.frames.proofs.pass_over.Statement.{statement}
+use Rattle.frames.proofs.pass_over.Tie as tie
 
 abbrev Inv-loop : tie.InvT-loop
 Inv-loop bytes left₀ left = Unit

@@ -1,15 +1,17 @@
 use borrow.Author.Needs.{needs}
-use Rattle.batch.proofs.rest_of_size.Statement.{statement}
-use Rattle.batch.proofs.rest_of_size.Tie as tie
+use mathlib.Core.Path.{_≡_}
+use lib.ListN.{length}
+use Rattle.ask_cases.proofs.cases.Statement.{statement}
+use Rattle.ask_cases.proofs.cases.Tie as tie
 
 abbrev Inv-loop : tie.InvT-loop
-Inv-loop first size₀ left₀ size left = Unit
+Inv-loop space₀ left₀ space left = length space ≡ length space₀
 
 abbrev μ-loop : tie.MeasureT-loop
-μ-loop first size₀ left₀ size left = left
+μ-loop space₀ left₀ space left = left
 
-pub rest-of-size-spec : {M : Type 1} → statement M
-rest-of-size-spec =
+pub cases-spec : {M : Type 1} → statement M
+cases-spec =
     tie.close
     (tie.spec
     Inv-loop
@@ -17,10 +19,8 @@ rest-of-size-spec =
     (λ c. search needs)
     (λ c κs. search needs)
     (λ c. search needs)
-    (λ c κs. search needs)
     (λ c. search needs)
     (λ c. search needs)
-    (λ c κs. search needs)
     (λ c. search needs)
     (λ c. search needs)
     (λ c. search needs)

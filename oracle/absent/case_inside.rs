@@ -1,0 +1,1 @@
+//! Not published, and named by nothing that is.

@@ -1,0 +1,209 @@
+//! Lays the published text of the Rust down for the compiler.
+//!
+//! The text is read from the folder that `VITAMIN_SRC` names. It is changed by the edits of `patches/` alone; modules that the
+//! publication leaves out are those of `absent/`, where every function ends the run. With the feature `wrong`, each edit of
+//! `wrong/` makes one more copy of the walk, or of the reading of a sheet, with that one mistake in it. An edit whose text does
+//! not stand where it must, as often as it must, stops the build.
+
+use std::env;
+use std::fmt::Write as _;
+use std::fs;
+use std::path::{Path, PathBuf};
+
+/// The published files, by their own paths.
+const PUBLISHED: [&str; 6] = [
+    "crates/hdl-ast/src/lib.rs",
+    "crates/elaborate/src/da/mod.rs",
+    "crates/elaborate/src/da/expr_effect.rs",
+    "crates/elaborate/src/da/loops.rs",
+    "crates/elaborate/src/da/reads.rs",
+    "crates/elaborate/src/da/writes.rs",
+];
+
+/// Modules of hdl-ast that the publication leaves out.
+const ABSENT: [&str; 5] = ["case_inside", "range_rules", "sysfn", "value_rules", "walk"];
+
+/// The files of the second reading, which wrong readings are copies of.
+const READING: [&str; 3] = ["src/reading/mod.rs", "src/reading/kinds.rs", "src/reading/tables.rs"];
+
+/// One change of a text: what stands there, what is to stand there, and how often it stands there.
+struct Hunk {
+    old: Vec<String>,
+    new: Vec<String>,
+    times: usize,
+}
+
+struct Edit {
+    name: String,
+    title: String,
+    file: String,
+    hunks: Vec<Hunk>,
+}
+
+/// The edits of a file. Empty lines stand between them. An edit is `name: title`, a line `file: ..` unless it is the file of the edit
+/// before, and hunks of `old: ..` and `new: ..` lines, with `times: N` where the text stands more than once. Several `old:` lines, or
+/// `new:` lines, are the lines of one text.
+fn read_edits(path: &Path) -> Vec<Edit> {
+    println!("cargo:rerun-if-changed={}", path.display());
+    let text = fs::read_to_string(path).unwrap_or_else(|e| panic!("{}: {e}", path.display()));
+    let mut edits: Vec<Edit> = Vec::new();
+    for block in text.trim_end().split("\n\n") {
+        let mut lines = block.lines();
+        let (name, title) = parted(lines.next().expect("an edit"));
+        let file = edits.last().map_or(String::new(), |before| before.file.clone());
+        let mut edit = Edit { name, title, file, hunks: Vec::new() };
+        for line in lines {
+            edit.add(line);
+        }
+        edits.push(edit);
+    }
+    edits
+}
+
+/// A key, and what stands after it and one space.
+fn parted(line: &str) -> (String, String) {
+    let (key, rest) = line.split_once(':').unwrap_or_else(|| panic!("no key: {line}"));
+    (key.to_string(), rest.strip_prefix(' ').unwrap_or(rest).to_string())
+}
+
+impl Edit {
+    fn add(&mut self, line: &str) {
+        let (key, rest) = parted(line);
+        match key.as_str() {
+            "file" => self.file = rest,
+            "old" => match self.hunks.last_mut() {
+                Some(hunk) if hunk.new.is_empty() => hunk.old.push(rest),
+                _ => self.hunks.push(Hunk { old: vec![rest], new: Vec::new(), times: 1 }),
+            },
+            "new" => self.hunks.last_mut().expect("old before new").new.push(rest),
+            "times" => self.hunks.last_mut().expect("old before times").times = rest.parse().expect("a count"),
+            _ => panic!("{}: {line}", self.name),
+        }
+    }
+}
+
+/// The edits of a folder, in the order of its files' names.
+fn edits_of(folder: &Path) -> Vec<Edit> {
+    println!("cargo:rerun-if-changed={}", folder.display());
+    let mut paths: Vec<PathBuf> = fs::read_dir(folder)
+        .unwrap_or_else(|e| panic!("{}: {e}", folder.display()))
+        .map(|entry| entry.expect("an entry").path())
+        .filter(|path| path.extension().is_some_and(|e| e == "edits"))
+        .collect();
+    paths.sort();
+    paths.iter().flat_map(|path| read_edits(path)).collect()
+}
+
+fn apply(text: &str, edit: &Edit) -> String {
+    let mut text = text.to_string();
+    for hunk in &edit.hunks {
+        let (old, new) = (hunk.old.join("\n"), hunk.new.join("\n"));
+        let found = text.matches(&old).count();
+        assert!(
+            found == hunk.times,
+            "the edit {} finds its text {found} times in {}, and it must stand there {} times: {}",
+            edit.name,
+            edit.file,
+            hunk.times,
+            old
+        );
+        text = text.replace(&old, &new);
+    }
+    text
+}
+
+/// Writes these texts, each by its path, under a folder; those that the edit is for, as the edit has them.
+fn lay_down(folder: &Path, texts: &[(String, String)], edit: Option<&Edit>) {
+    for (path, text) in texts {
+        let to = folder.join(path);
+        fs::create_dir_all(to.parent().expect("a folder")).expect("a folder");
+        let text = match edit {
+            Some(edit) if edit.file == *path => apply(text, edit),
+            _ => text.clone(),
+        };
+        fs::write(&to, text).unwrap_or_else(|e| panic!("{}: {e}", to.display()));
+    }
+}
+
+/// The module of a walk: the text of `da`, and the call that asks it.
+fn walk_module(out: &mut String, name: &str, folder: &Path) {
+    let file = folder.join("crates/elaborate/src/da/mod.rs");
+    writeln!(
+        out,
+        "#[allow(unused, clippy::all)] pub mod {name} {{ use crate::hdl_ast; use crate::hdl_ast as ast; \
+         #[path = {file:?}] pub mod da; crate::asking::asked_by!(); }}"
+    )
+    .expect("written");
+}
+
+fn reading_module(out: &mut String, name: &str, folder: &Path) {
+    let file = folder.join("src/reading/mod.rs");
+    writeln!(out, "#[allow(unused)] #[path = {file:?}] pub mod {name};").expect("written");
+}
+
+/// The copies with one mistake each, and the list of them.
+fn wrong_modules(out: &mut String, here: &Path, built: &Path, da: &[(String, String)]) {
+    let reading: Vec<(String, String)> =
+        READING.iter().map(|path| (path.to_string(), fs::read_to_string(here.join(path)).expect("the reading"))).collect();
+    let mut walks = String::new();
+    let mut readings = String::new();
+    for edit in edits_of(&here.join("wrong")) {
+        let module = format!("wrong_{}", edit.name);
+        let folder = built.join(&module);
+        let entry = format!("({:?}, {:?}, {module}", edit.name, edit.title);
+        if READING.contains(&edit.file.as_str()) {
+            lay_down(&folder, &reading, Some(&edit));
+            reading_module(out, &module, &folder);
+            writeln!(readings, "{entry}::load, {module}::held),").expect("written");
+        } else {
+            assert!(da.iter().any(|(path, _)| *path == edit.file), "{}: no such file: {}", edit.name, edit.file);
+            lay_down(&folder, da, Some(&edit));
+            walk_module(out, &module, &folder);
+            writeln!(walks, "{entry}::asked),").expect("written");
+        }
+    }
+    writeln!(out, "pub static WRONG_WALKS: &[(&str, &str, crate::wrong::Walk)] = &[{walks}];").expect("written");
+    writeln!(out, "pub static WRONG_READINGS: &[(&str, &str, crate::wrong::Load, crate::wrong::Held)] = &[{readings}];")
+        .expect("written");
+}
+
+fn main() {
+    println!("cargo:rerun-if-env-changed=VITAMIN_SRC");
+    let here = PathBuf::from(env::var("CARGO_MANIFEST_DIR").expect("set by cargo"));
+    let source = env::var("VITAMIN_SRC").map_or_else(|_| here.join("../../shared/docs/src"), PathBuf::from);
+    let built = PathBuf::from(env::var("OUT_DIR").expect("set by cargo"));
+    let patches = edits_of(&here.join("patches"));
+    let mut texts: Vec<(String, String)> = Vec::new();
+    for path in PUBLISHED {
+        let from = source.join(path);
+        println!("cargo:rerun-if-changed={}", from.display());
+        let mut text =
+            fs::read_to_string(&from).unwrap_or_else(|e| panic!("{}: {e} (VITAMIN_SRC names the folder)", from.display()));
+        for patch in patches.iter().filter(|patch| patch.file == path) {
+            text = apply(&text, patch);
+        }
+        texts.push((path.to_string(), text));
+    }
+    for patch in &patches {
+        assert!(PUBLISHED.contains(&patch.file.as_str()), "{}: no such file: {}", patch.name, patch.file);
+    }
+    for name in ABSENT {
+        let path = here.join(format!("absent/{name}.rs"));
+        println!("cargo:rerun-if-changed={}", path.display());
+        texts.push((format!("crates/hdl-ast/src/{name}.rs"), fs::read_to_string(&path).expect("an absent module")));
+    }
+    let right = built.join("right");
+    lay_down(&right, &texts, None);
+    let mut out = String::new();
+    writeln!(out, "#[allow(unused, clippy::all)] #[path = {:?}] pub mod hdl_ast;", right.join("crates/hdl-ast/src/lib.rs"))
+        .expect("written");
+    walk_module(&mut out, "right", &right);
+    if env::var("CARGO_FEATURE_WRONG").is_ok() {
+        for path in READING {
+            println!("cargo:rerun-if-changed={path}");
+        }
+        let da: Vec<(String, String)> = texts.iter().filter(|(path, _)| path.contains("/da/")).cloned().collect();
+        wrong_modules(&mut out, &here, &built, &da);
+    }
+    fs::write(built.join("published.rs"), out).expect("written");
+}

@@ -1,0 +1,70 @@
+//! The published Rust as the judge of the checker's answers. See README.md beside this crate.
+
+mod answer;
+mod asking;
+mod compare;
+mod damage_states;
+mod fill;
+mod frames;
+mod generate;
+mod judge;
+#[cfg(feature = "wrong")]
+mod list;
+mod random;
+mod reading;
+mod sheet;
+mod states;
+mod tree;
+#[cfg(feature = "wrong")]
+mod wrong;
+
+include!(concat!(env!("OUT_DIR"), "/published.rs"));
+
+/// Not published, and never reached by `da_stmt`.
+pub mod struct_arm {
+    pub fn arm_reads_ident(_: &crate::hdl_ast::Expr, _: &str) -> bool {
+        unreachable!("struct_arm is not published")
+    }
+}
+
+use judge::Input;
+use std::io;
+
+fn number<T: std::str::FromStr>(word: &str) -> T {
+    word.parse().unwrap_or_else(|_| panic!("{word} is no number"))
+}
+
+fn input(word: &str) -> Input {
+    Input::named(word).unwrap_or_else(|| panic!("{word} is neither sheets nor states"))
+}
+
+const USAGE: &str = "usage: oracle judge sheets|states < FRAMES          the oracle's line for each
+       oracle generate SEED FROM TO                  sheets of a seed, as frames
+       oracle compare BATCH ASK_CASES COUNT SEED     the checker's programs against the oracle
+and, built with the feature `wrong`:
+       oracle list sheets FOLDER SEED                the list of batch, in its folder
+       oracle list states FOLDER WORKED SEED         the list of ask_cases
+       oracle notice BATCH_FOLDER ASK_CASES_FOLDER   which known mistakes the lists notice";
+
+fn main() -> io::Result<()> {
+    let args: Vec<String> = std::env::args().skip(1).collect();
+    let words: Vec<&str> = args.iter().map(String::as_str).collect();
+    let good = match words[..] {
+        // What the others start to do their asking.
+        ["work", of] => judge::work(input(of)).map(|()| true),
+        ["judge", of] => judge::print(input(of)).map(|()| true),
+        ["generate", seed, from, to] => generate::print(number(seed), number(from)..number(to)).map(|()| true),
+        ["compare", batch, ask_cases, count, seed] => compare::run(batch, ask_cases, number(count), number(seed)),
+        #[cfg(feature = "wrong")]
+        ["list", "sheets", folder, seed] => list::sheets(folder.as_ref(), number(seed)).map(|()| true),
+        #[cfg(feature = "wrong")]
+        ["list", "states", folder, worked, seed] => list::states(folder.as_ref(), worked.as_ref(), number(seed)).map(|()| true),
+        #[cfg(feature = "wrong")]
+        ["notice", batch, ask_cases] => list::notice(batch.as_ref(), ask_cases.as_ref()),
+        _ => {
+            eprintln!("{USAGE}");
+            Ok(false)
+        }
+    };
+    std::process::exit(i32::from(!good?));
+}
