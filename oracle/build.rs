@@ -95,8 +95,10 @@ fn edits_of(folder: &Path) -> Vec<Edit> {
 }
 
 fn apply(text: &str, edit: &Edit) -> String {
+    assert!(!edit.hunks.is_empty(), "the edit {} changes nothing", edit.name);
     let mut text = text.to_string();
     for hunk in &edit.hunks {
+        assert!(!hunk.new.is_empty(), "the edit {} does not say what is to stand there", edit.name);
         let (old, new) = (hunk.old.join("\n"), hunk.new.join("\n"));
         let found = text.matches(&old).count();
         assert!(

@@ -1,19 +1,23 @@
 //! `da_stmt` asked of a tree: the three callbacks from the side numbers, and its answer in document 01's numbers.
 
 use crate::hdl_ast::{HierPath, Stmt};
+use std::cell::Cell;
 use std::collections::HashMap;
+use std::panic::{catch_unwind, resume_unwind, AssertUnwindSafe};
 
-/// A call or loop, told by the address of what it owns: spans may repeat, and this address stays when the tree is put together.
+/// A call, task or loop, told by the address of what it owns: spans may repeat, and this address stays when the tree is put together.
 pub type Address = usize;
 
-/// The statement that a sheet's rows stand for.
+/// The statement that a sheet's rows stand for, with the side numbers of its calls, tasks and loops.
 pub struct Tree {
     pub stmt: Stmt,
     pub local: String,
-    /// The side number of each call and task.
     pub calls: HashMap<Address, u32>,
-    /// The side number of each loop.
+    pub tasks: HashMap<Address, u32>,
     pub loops: HashMap<Address, u32>,
+    /// How often a walk has asked what a call does, and how often it may.
+    pub questions: Cell<u64>,
+    pub most_questions: u64,
 }
 
 /// A call's own path, by where its segments are kept. The tree keeps room for one where there is none.
@@ -32,18 +36,40 @@ pub fn loop_address(stmt: &Stmt) -> Address {
     }
 }
 
+/// On nested && the Rust takes about 2.6 to the n, and asks what a call does at each step of it. So many questions are a second or two.
+pub const MOST_QUESTIONS: u64 = 30_000_000;
+
+/// What a walk that asks more often is ended with.
+struct TooLong;
+
 impl Tree {
-    pub fn call_side(&self, path: &HierPath, name: &str) -> u32 {
+    /// What a call or task does to the local.
+    pub fn effect(&self, path: &HierPath, name: &str) -> u32 {
         assert_eq!(name, self.local, "asked about a name that is not the local");
-        self.calls[&path_address(path)]
+        self.questions.set(self.questions.get() + 1);
+        if self.questions.get() > self.most_questions {
+            resume_unwind(Box::new(TooLong));
+        }
+        let address = path_address(path);
+        self.calls.get(&address).or_else(|| self.tasks.get(&address)).expect("a call or task of the sheet") % 4
     }
 
-    pub fn task_side(&self, path: &HierPath) -> u32 {
-        self.calls[&path_address(path)]
+    pub fn suspends(&self, path: &HierPath) -> bool {
+        self.tasks[&path_address(path)] >= 4
     }
 
-    pub fn loop_side(&self, stmt: &Stmt) -> u32 {
-        self.loops[&loop_address(stmt)]
+    pub fn runs_once(&self, stmt: &Stmt) -> bool {
+        self.loops[&loop_address(stmt)] == 1
+    }
+
+    /// The result of a walk of this tree, or nothing where it takes too long.
+    pub fn limited<R>(&self, walk: impl FnOnce() -> R) -> Option<R> {
+        self.questions.set(0);
+        match catch_unwind(AssertUnwindSafe(walk)) {
+            Ok(result) => Some(result),
+            Err(payload) if payload.is::<TooLong>() => None,
+            Err(payload) => resume_unwind(payload),
+        }
     }
 }
 
@@ -68,23 +94,23 @@ pub fn reason(what: &str) -> u32 {
 /// The call of one copy of `da_stmt`: its types are its own, so each copy has this beside it.
 macro_rules! asked_by {
     () => {
-        pub fn asked(tree: &crate::asking::Tree, start: bool, sole: bool) -> crate::answer::Answer {
+        pub fn asked(tree: &crate::asking::Tree, start: bool, sole: bool) -> Option<crate::answer::Answer> {
             use crate::answer::Answer;
             use da::{CallEffect, DaOut};
-            let effect = |path: &ast::HierPath, _: &[ast::Expr], name: &str| match tree.call_side(path, name) % 4 {
+            let effect = |path: &ast::HierPath, _: &[ast::Expr], name: &str| match tree.effect(path, name) {
                 0 => CallEffect::Inert,
                 1 => CallEffect::Writes,
                 2 => CallEffect::Reads,
                 _ => CallEffect::Unknown,
             };
-            let suspends = |path: &ast::HierPath| tree.task_side(path) >= 4;
-            let once = |stmt: &ast::Stmt| tree.loop_side(stmt) == 1;
+            let suspends = |path: &ast::HierPath| tree.suspends(path);
+            let once = |stmt: &ast::Stmt| tree.runs_once(stmt);
             let ctx = da::DaCtx { out_writes: &effect, suspends: &suspends, loop_once: &once, sole };
-            match da::da_stmt(&tree.stmt, start, &tree.local, &ctx) {
+            tree.limited(|| match da::da_stmt(&tree.stmt, start, &tree.local, &ctx) {
                 Ok(DaOut::Falls(written)) => Answer::Falls(written),
                 Ok(DaOut::Jumps) => Answer::Jumps,
                 Err(stop) => Answer::GivesUp { reason: crate::asking::reason(stop.what), lo: stop.span.lo, hi: stop.span.hi },
-            }
+            })
         }
     };
 }

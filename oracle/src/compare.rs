@@ -3,7 +3,8 @@
 use crate::damage_states;
 use crate::frames;
 use crate::generate::Generator;
-use crate::judge::{self, Input, LIMIT, TOO_SLOW};
+use crate::judge::{self, Input, TOO_LONG};
+use crate::parallel;
 use crate::reading;
 use crate::reading::kinds::{Kind, Side, KINDS};
 use std::collections::{BTreeMap, BTreeSet};
@@ -30,18 +31,10 @@ fn program_lines(program: &str, frames: &[Vec<u8>]) -> Vec<String> {
         scope.spawn(move || frames.iter().all(|frame| frames::write(&mut to, frame).is_ok()));
         from.read_to_string(&mut text).expect("lines of text");
     });
-    child.wait().expect("a program that ended");
-    text.lines().map(str::to_string).collect()
-}
-
-/// The oracle's lines, by as many workers as there are processors.
-pub fn oracle_lines(input: Input, frames: &[Vec<u8>]) -> Vec<String> {
-    let workers = thread::available_parallelism().map_or(1, usize::from);
-    let share = frames.len().div_ceil(workers).max(1);
-    thread::scope(|scope| {
-        let parts: Vec<_> = frames.chunks(share).map(|part| scope.spawn(|| judge::lines(input, part, LIMIT))).collect();
-        parts.into_iter().flat_map(|part| part.join().expect("a judge")).collect()
-    })
+    assert!(child.wait().expect("a program that ended").success(), "{program} ended badly");
+    let lines: Vec<String> = text.lines().map(str::to_string).collect();
+    assert_eq!(lines.len(), frames.len(), "{program} wrote as many lines as it read frames");
+    lines
 }
 
 /// What a line says without its place: the answer, or the reason of a give-up or refusal.
@@ -72,11 +65,11 @@ fn kinds_and_sides() -> usize {
 struct Tally {
     passed: usize,
     failed: usize,
-    too_slow: usize,
+    too_long: usize,
     /// How often the oracle had each outcome, and from where.
     outcomes: BTreeMap<String, usize>,
     origins: BTreeMap<String, usize>,
-    /// The kinds of rows of good sheets, with their sides; a name number is as good as any other.
+    /// The kinds of rows of good sheets, with their sides; which name a row names does not count.
     kinds: BTreeSet<(usize, u32)>,
 }
 
@@ -96,8 +89,8 @@ impl Tally {
         if let (Input::Sheets, Ok(sheet)) = (input, reading::load(frame)) {
             self.kinds.extend(sheet.rows.iter().map(|row| (row.kind, if is_name(row.kind) { 0 } else { row.side })));
         }
-        if theirs == TOO_SLOW {
-            self.too_slow += 1;
+        if theirs == TOO_LONG {
+            self.too_long += 1;
             return Ok(());
         }
         // What is not damaged is a good sheet, or the generator is wrong.
@@ -123,27 +116,21 @@ fn compare(input: Input, program: &str, count: usize, made: impl Fn(usize) -> (V
     let mut tally = Tally::default();
     for from in (0..count).step_by(PART) {
         let numbers: Vec<usize> = (from..count.min(from + PART)).collect();
-        let workers = thread::available_parallelism().map_or(1, usize::from);
-        let share = numbers.len().div_ceil(workers);
-        let made: Vec<(Vec<u8>, String)> = thread::scope(|scope| {
-            let parts: Vec<_> =
-                numbers.chunks(share).map(|part| scope.spawn(|| part.iter().map(|i| made(*i)).collect::<Vec<_>>())).collect();
-            parts.into_iter().flat_map(|part| part.join().expect("a generator")).collect()
-        });
-        let (frames, origins): (Vec<Vec<u8>>, Vec<String>) = made.into_iter().unzip();
+        let (frames, origins): (Vec<Vec<u8>>, Vec<String>) = parallel::each(&numbers, |number| made(*number)).into_iter().unzip();
         let ours = program_lines(program, &frames);
-        let theirs = oracle_lines(input, &frames);
+        let theirs = judge::lines(input, &frames);
         for (i, number) in numbers.iter().enumerate() {
-            let none = String::new();
-            tally.add(input, *number, &frames[i], &origins[i], ours.get(i).unwrap_or(&none), &theirs[i])?;
+            tally.add(input, *number, &frames[i], &origins[i], &ours[i], &theirs[i])?;
         }
     }
     Ok(tally)
 }
 
-/// `count` sheets through `batch` and a tenth as many states through `ask_cases`; the last line says how many passed.
-pub fn run(batch: &str, ask_cases: &str, count: usize, seed: u64) -> io::Result<bool> {
+/// So many sheets, or the whole plan and what comes with it, through `batch`, and a tenth as many states through `ask_cases`; the last line
+/// says how many passed.
+pub fn run(batch: &str, ask_cases: &str, count: Option<usize>, seed: u64) -> io::Result<bool> {
     let generator = Generator::new(seed);
+    let count = count.unwrap_or(generator.whole_plan());
     println!("{count} sheets of seed {seed}; the plan has {}", generator.planned());
     let sheets = compare(Input::Sheets, batch, count, |i| {
         let made = generator.sheet(i);
@@ -156,7 +143,7 @@ pub fn run(batch: &str, ask_cases: &str, count: usize, seed: u64) -> io::Result<
     let states = compare(Input::States, ask_cases, states, |i| damage_states::made(&generator, seed, i))?;
     states.print();
     let (passed, failed) = (sheets.passed + states.passed, sheets.failed + states.failed);
-    println!("{} not compared, since {TOO_SLOW}", sheets.too_slow + states.too_slow);
+    println!("{} not compared, since {TOO_LONG}", sheets.too_long + states.too_long);
     println!("{passed} passed, {failed} failed");
     Ok(failed == 0)
 }

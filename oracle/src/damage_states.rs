@@ -1,9 +1,10 @@
 //! Records and tables that loading did not leave: those of a sheet, with numbers of the record, marks, rows or lengths changed.
 
+use crate::generate::draft::{is_jump, kind_of};
 use crate::generate::Generator;
 use crate::random::Random;
 use crate::reading;
-use crate::sheet::{Sheet, State};
+use crate::sheet::{Row, Sheet, State};
 use crate::states;
 
 /// The record and tables that loading leaves, with room to spare or none.
@@ -16,8 +17,7 @@ pub fn loaded(sheet: &Sheet, spare: usize) -> State {
     let mut name_table: Vec<u32> = Vec::new();
     let mut offset = format!("sheet=1\nnames={}\nname=", sheet.names.len()).len();
     for name in &sheet.names {
-        let jumps = name.starts_with("$break$") || name.starts_with("$continue$");
-        name_table.extend([offset as u32, name.len() as u32, u32::from(jumps)]);
+        name_table.extend([offset as u32, name.len() as u32, u32::from(is_jump(name.as_bytes()))]);
         offset += name.len() + 6;
     }
     name_table.resize(name_table.len() + spare, 0);
@@ -90,16 +90,25 @@ fn change(random: &mut Random, state: &mut State) {
     }
 }
 
+/// Blocks in blocks, around depth 100.
+fn nested(depth: usize) -> Sheet {
+    let row = |i| Row { kind: kind_of(if i + 1 == depth { "null" } else { "block" }), side: 0, lo: 0, hi: 0, end: depth };
+    Sheet { names: vec!["x".to_string()], local: 0, start: false, sole: true, rows: (0..depth).map(row).collect() }
+}
+
+/// A sheet to take the tables of: the next good one from this number on that is not long, or a deep one.
+fn taken(generator: &Generator, random: &mut Random, number: usize) -> Sheet {
+    if random.percent(3) {
+        return nested(random.between(99, 102));
+    }
+    let loaded = (number..).filter_map(|from| reading::load(&generator.sheet(from).bytes).ok());
+    loaded.into_iter().find(|sheet| sheet.rows.len() < 200 && sheet.names.len() < 50).expect("good sheets do not end")
+}
+
 /// The state of this number, and where it comes from.
 pub fn made(generator: &Generator, seed: u64, number: usize) -> (Vec<u8>, String) {
     let mut random = Random::new(seed ^ 0x5747, number as u64);
-    let mut from = number;
-    let sheet = loop {
-        match reading::load(&generator.sheet(from).bytes) {
-            Ok(sheet) if sheet.rows.len() < 200 && sheet.names.len() < 50 => break sheet,
-            _ => from += 1,
-        }
-    };
+    let sheet = taken(generator, &mut random, number);
     let spare = *random.pick(&[0, 0, 1, 7]);
     let mut state = loaded(&sheet, spare);
     let changes = random.below(4);

@@ -1,9 +1,10 @@
 //! The fixed lists that the gate replays: chosen from a seed so that small inputs tell every known mistake, outcome, kind and side.
 
-use crate::compare::{oracle_lines, outcome};
+use crate::compare::outcome;
 use crate::frames;
 use crate::generate::Generator;
-use crate::judge::{self, Input, STOPPED, TOO_SLOW};
+use crate::judge::{self, Input, TOO_LONG};
+use crate::parallel;
 use crate::random::Random;
 use crate::reading::kinds::KINDS;
 use crate::reading::{self, tables::children_of};
@@ -14,7 +15,6 @@ use std::collections::{BTreeMap, BTreeSet};
 use std::fs;
 use std::io::{self, BufReader};
 use std::path::Path;
-use std::thread;
 
 /// How many are looked at beside the plan, and the longest of them that is taken for what it tells.
 const LOOKED_AT: usize = 200_000;
@@ -61,32 +61,26 @@ fn looked_at(generator: &Generator, wrongs: &[Wrong], number: usize) -> Option<C
     }
     let read = reading::load(&made.bytes);
     let outcome = match &read {
-        Ok(sheet) => outcome(&judge::walked(sheet).line()),
+        Ok(sheet) => outcome(&judge::walked(sheet)?.line()),
         Err(refused) => format!("refused {}", refused.number),
     };
     let mut shows = vec![format!("{} {outcome}", made.origin)];
-    if let Ok(sheet) = &read {
-        shows.extend(shown(sheet, &outcome));
-        shows.push(format!("start {} sole {} {outcome}", sheet.start, sheet.sole));
+    match &read {
+        Ok(sheet) => {
+            shows.extend(shown(sheet, &outcome));
+            shows.push(format!("start {} sole {} {outcome}", sheet.start, sheet.sole));
+        }
+        // Each of the smallest is taken.
+        Err(_) if made.origin == "damaged misfit" => shows.push(format!("misfit {number}")),
+        Err(_) => {}
     }
     let tells = wrong::told_by_sheet(wrongs, &made.bytes);
     Some(Candidate { number, size: made.bytes.len(), tells, shows })
 }
 
-/// What is looked at, by as many workers as there are processors.
-fn candidates(count: usize, look: impl Fn(usize) -> Option<Candidate> + Sync) -> Vec<Candidate> {
-    let workers = thread::available_parallelism().map_or(1, usize::from);
-    let look = &look;
-    thread::scope(|scope| {
-        let parts: Vec<_> = (0..workers)
-            .map(|worker| scope.spawn(move || (worker..count).step_by(workers).filter_map(look).collect::<Vec<_>>()))
-            .collect();
-        parts.into_iter().flat_map(|part| part.join().expect("a worker")).collect()
-    })
-}
-
 /// The smallest candidates that tell each mistake and show each feature often enough, then others at random, to this many.
-fn chosen(mut candidates: Vec<Candidate>, enough: usize, seed: u64) -> Vec<usize> {
+fn chosen(candidates: Vec<Option<Candidate>>, enough: usize, seed: u64) -> Vec<usize> {
+    let mut candidates: Vec<Candidate> = candidates.into_iter().flatten().collect();
     candidates.sort_by_key(|candidate| (candidate.size, candidate.number));
     let mut told: BTreeMap<usize, usize> = BTreeMap::new();
     let mut seen: BTreeMap<String, usize> = BTreeMap::new();
@@ -139,25 +133,24 @@ fn write(folder: &Path, of: &[(Vec<u8>, String)], ending: (&str, &str)) -> io::R
 
 /// Frames with the oracle's lines. What the Rust does not answer in time has no place in a list.
 fn judged(input: Input, frames: Vec<Vec<u8>>) -> Vec<(Vec<u8>, String)> {
-    let lines = oracle_lines(input, &frames);
-    assert!(lines.iter().all(|line| line != STOPPED), "{STOPPED}");
-    frames.into_iter().zip(lines).filter(|(_, line)| line != TOO_SLOW).collect()
+    let lines = judge::lines(input, &frames);
+    frames.into_iter().zip(lines).filter(|(_, line)| line != TOO_LONG).collect()
 }
 
 /// How many of these lines the oracle gives as well; the others it takes too long for.
 fn agreed(input: Input, worked: &[(Vec<u8>, String)]) -> usize {
     let frames: Vec<Vec<u8>> = worked.iter().map(|(frame, _)| frame.clone()).collect();
-    let lines = oracle_lines(input, &frames);
+    let lines = judge::lines(input, &frames);
     for ((_, worked), line) in worked.iter().zip(&lines) {
-        assert!(line == worked || line == TOO_SLOW, "worked out as {worked}, and the oracle says {line}");
+        assert!(line == worked || line == TOO_LONG, "worked out as {worked}, and the oracle says {line}");
     }
-    lines.iter().filter(|line| *line != TOO_SLOW).count()
+    lines.iter().filter(|line| *line != TOO_LONG).count()
 }
 
 /// The sheets that were worked out by hand stand first in `batch`'s input, and stay.
 const WORKED_SHEETS: usize = 1430;
 
-/// Long ones, which are not taken for what they tell: some of each outcome.
+/// Long ones, which are not taken for what they tell.
 fn long_sheets(generator: &Generator, random: &mut Random, count: usize) -> Vec<Vec<u8>> {
     let mut found = Vec::new();
     while found.len() < count {
@@ -176,7 +169,8 @@ pub fn sheets(folder: &Path, seed: u64) -> io::Result<()> {
     println!("{} of {WORKED_SHEETS} worked sheets agree with the oracle", agreed(Input::Sheets, &list));
     let generator = Generator::new(seed);
     let wrongs = wrong::all();
-    let found = candidates(3 * generator.planned() + 6, |number| looked_at(&generator, &wrongs, number));
+    let numbers: Vec<usize> = (0..generator.whole_plan()).collect();
+    let found = parallel::each(&numbers, |number| looked_at(&generator, &wrongs, *number));
     let mut frames: Vec<Vec<u8>> = chosen(found, SHEETS, seed).iter().map(|i| generator.sheet(*i).bytes).collect();
     frames.extend(long_sheets(&generator, &mut Random::new(seed, u64::MAX - 1), 40));
     list.extend(judged(Input::Sheets, frames));
@@ -204,18 +198,19 @@ pub fn states(folder: &Path, worked: &Path, seed: u64) -> io::Result<()> {
     println!("{} of {} worked states agree with the oracle", agreed(Input::States, &list), list.len());
     let generator = Generator::new(seed);
     let wrongs = wrong::all();
-    let found = candidates(LOOKED_AT / 4, |number| {
-        let (frame, origin) = damage_states::made(&generator, seed, number);
+    let numbers: Vec<usize> = (0..LOOKED_AT / 4).collect();
+    let found = parallel::each(&numbers, |number| {
+        let (frame, origin) = damage_states::made(&generator, seed, *number);
         if frame.len() > LONGEST {
             return None;
         }
         let (_, state) = states::read(&frame);
         let outcome = match reading::held(&state) {
-            Ok(sheet) => outcome(&judge::walked(&sheet).line()),
+            Ok(sheet) => outcome(&judge::walked(&sheet)?.line()),
             Err(refused) => format!("refused {} at {}", refused.number, refused.place.min(9)),
         };
         let tells = wrong::told_by_state(&wrongs, &frame);
-        Some(Candidate { number, size: frame.len(), tells, shows: vec![format!("{origin} {outcome}")] })
+        Some(Candidate { number: *number, size: frame.len(), tells, shows: vec![format!("{origin} {outcome}")] })
     });
     let frames = chosen(found, STATES, seed).iter().map(|i| damage_states::made(&generator, seed, *i).0).collect();
     list.extend(judged(Input::States, frames));
@@ -229,8 +224,8 @@ pub fn notice(batch: &Path, ask_cases: &Path) -> io::Result<bool> {
     let in_time = |input, folder: &Path| -> io::Result<Vec<Option<Vec<u8>>>> {
         let list = stored(folder)?;
         let frames: Vec<Vec<u8>> = list.iter().map(|(frame, _)| frame.clone()).collect();
-        let lines = oracle_lines(input, &frames);
-        Ok(frames.into_iter().zip(lines).map(|(frame, line)| (line != TOO_SLOW).then_some(frame)).collect())
+        let lines = judge::lines(input, &frames);
+        Ok(frames.into_iter().zip(lines).map(|(frame, line)| (line != TOO_LONG).then_some(frame)).collect())
     };
     let sheets = in_time(Input::Sheets, batch)?;
     let states = in_time(Input::States, ask_cases)?;

@@ -10,6 +10,7 @@ mod generate;
 mod judge;
 #[cfg(feature = "wrong")]
 mod list;
+mod parallel;
 mod random;
 mod reading;
 mod sheet;
@@ -40,7 +41,7 @@ fn input(word: &str) -> Input {
 
 const USAGE: &str = "usage: oracle judge sheets|states < FRAMES          the oracle's line for each
        oracle generate SEED FROM TO                  sheets of a seed, as frames
-       oracle compare BATCH ASK_CASES COUNT SEED     the checker's programs against the oracle
+       oracle compare BATCH ASK_CASES COUNT|all SEED the checker's programs against the oracle; all: with the whole plan
 and, built with the feature `wrong`:
        oracle list sheets FOLDER SEED                the list of batch, in its folder
        oracle list states FOLDER WORKED SEED         the list of ask_cases
@@ -50,11 +51,10 @@ fn main() -> io::Result<()> {
     let args: Vec<String> = std::env::args().skip(1).collect();
     let words: Vec<&str> = args.iter().map(String::as_str).collect();
     let good = match words[..] {
-        // What the others start to do their asking.
-        ["work", of] => judge::work(input(of)).map(|()| true),
         ["judge", of] => judge::print(input(of)).map(|()| true),
         ["generate", seed, from, to] => generate::print(number(seed), number(from)..number(to)).map(|()| true),
-        ["compare", batch, ask_cases, count, seed] => compare::run(batch, ask_cases, number(count), number(seed)),
+        ["compare", batch, ask_cases, "all", seed] => compare::run(batch, ask_cases, None, number(seed)),
+        ["compare", batch, ask_cases, count, seed] => compare::run(batch, ask_cases, Some(number(count)), number(seed)),
         #[cfg(feature = "wrong")]
         ["list", "sheets", folder, seed] => list::sheets(folder.as_ref(), number(seed)).map(|()| true),
         #[cfg(feature = "wrong")]

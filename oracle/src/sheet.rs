@@ -31,7 +31,7 @@ pub struct State {
     pub name_table: Vec<u32>,
 }
 
-/// "A numbered refusal"; the place is a line in loading, a row in asking, or 0.
+/// A refusal, with its number and place: "a line number from 1", or in asking "the row", or 0.
 #[derive(Clone, Copy, PartialEq, Eq, Debug)]
 pub struct Refused {
     pub number: u32,

@@ -1,31 +1,36 @@
 //! The `hdl_ast` tree that a sheet's rows stand for.
 
-use crate::asking::{loop_address, path_address, Tree};
+use crate::asking::{loop_address, path_address, Tree, MOST_QUESTIONS};
 use crate::fill::{Fill, Way};
 use crate::hdl_ast::*;
 use crate::reading::kinds::KINDS;
 use crate::reading::tables::children_of;
 use crate::sheet::{Row, Sheet};
+use std::cell::Cell;
 use std::collections::HashMap;
 
 struct Builder<'a> {
     sheet: &'a Sheet,
     fill: Fill,
     calls: HashMap<usize, u32>,
+    tasks: HashMap<usize, u32>,
     loops: HashMap<usize, u32>,
+}
+
+/// A number that depends on all rows, so that no two sheets are filled in the same way.
+fn seed(sheet: &Sheet) -> u64 {
+    let number = |row: &Row| u64::from(row.lo ^ row.side) + row.kind as u64;
+    sheet.rows.iter().fold(0, |sum: u64, row| sum.wrapping_mul(31).wrapping_add(number(row)))
 }
 
 /// The tree of a sheet, with what the sheet drops filled in this way.
 pub fn tree(sheet: &Sheet, way: Way) -> Tree {
     let local = sheet.names[sheet.local].clone();
-    let seed = sheet
-        .rows
-        .iter()
-        .fold(0u64, |sum, row| sum.wrapping_mul(31).wrapping_add(u64::from(row.lo ^ row.side) + row.kind as u64));
-    let fill = Fill::new(way, &local, seed);
-    let mut builder = Builder { sheet, fill, calls: HashMap::new(), loops: HashMap::new() };
+    let fill = Fill::new(way, &local, seed(sheet));
+    let mut builder = Builder { sheet, fill, calls: HashMap::new(), tasks: HashMap::new(), loops: HashMap::new() };
     let stmt = builder.stmt(0);
-    Tree { stmt, local, calls: builder.calls, loops: builder.loops }
+    let Builder { calls, tasks, loops, .. } = builder;
+    Tree { stmt, local, calls, tasks, loops, questions: Cell::new(0), most_questions: MOST_QUESTIONS }
 }
 
 impl Builder<'_> {
@@ -45,8 +50,13 @@ impl Builder<'_> {
         children_of(&self.sheet.rows, i)
     }
 
-    fn is_none(&self, i: usize) -> bool {
-        self.word(i) == "none"
+    /// What a row stands for, unless it is `none`.
+    fn maybe<T>(&mut self, i: usize, built: fn(&mut Self, usize) -> T) -> Option<T> {
+        if self.word(i) == "none" {
+            None
+        } else {
+            Some(built(self, i))
+        }
     }
 
     fn named(&mut self, i: usize) -> Ident {
@@ -63,10 +73,16 @@ impl Builder<'_> {
         HierPath { segments, span: self.fill.span() }
     }
 
-    /// The path of a call or task, whose side number is told by its address.
-    fn called(&mut self, i: usize, side: u32) -> HierPath {
+    /// The path of a call, whose side number is told by its address.
+    fn call_path(&mut self, i: usize, side: u32) -> HierPath {
         let path = self.path(i);
         self.calls.insert(path_address(&path), side);
+        path
+    }
+
+    fn task_path(&mut self, i: usize, side: u32) -> HierPath {
+        let path = self.path(i);
+        self.tasks.insert(path_address(&path), side);
         path
     }
 
@@ -76,14 +92,6 @@ impl Builder<'_> {
 
     fn exprs(&mut self, of: &[usize]) -> Vec<Expr> {
         of.iter().map(|i| self.expr(*i)).collect()
-    }
-
-    fn maybe_expr(&mut self, i: usize) -> Option<Expr> {
-        if self.is_none(i) {
-            None
-        } else {
-            Some(self.expr(i))
-        }
     }
 
     fn expr(&mut self, i: usize) -> Expr {
@@ -116,26 +124,28 @@ impl Builder<'_> {
                 base: self.boxed(at[0]),
                 offset: self.boxed(at[1]),
                 width: self.boxed(at[2]),
-                dir: self.fill.pick(&[PartDir::PlusColon, PartDir::MinusColon]),
+                dir: self.fill.direction(),
             },
             "mtm" => ExprKind::MinTypMax { min: self.boxed(at[0]), typ: self.boxed(at[1]), max: self.boxed(at[2]) },
             "concat" => ExprKind::Concat { parts: self.exprs(&at) },
-            "syscall" => ExprKind::SysCall { name: self.fill.ident(), args: self.exprs(&at) },
+            "syscall" => ExprKind::SysCall { name: self.fill.system_name(), args: self.exprs(&at) },
             "pattern" => ExprKind::AssignPattern(self.exprs(&at)),
             "replicate" => ExprKind::Replicate { count: self.boxed(at[0]), value: self.exprs(&at[1..]) },
-            "method" => ExprKind::MethodCall { recv: self.boxed(at[0]), method: self.fill.ident(), args: self.exprs(&at[1..]) },
-            "call" => ExprKind::Call { name: self.called(at[0], side), args: self.exprs(&at[1..]) },
+            "method" => {
+                ExprKind::MethodCall { recv: self.boxed(at[0]), method: self.fill.method_name(), args: self.exprs(&at[1..]) }
+            }
+            "call" => ExprKind::Call { name: self.call_path(at[0], side), args: self.exprs(&at[1..]) },
             "paren" => ExprKind::Paren { inner: self.boxed(at[0]) },
             "cast" => {
                 let expr = self.boxed(at[0]);
-                let target = match self.maybe_expr(at[1]) {
-                    Some(size) => CastTarget::Size(Box::new(size)),
+                let target = match self.maybe(at[1], Self::boxed) {
+                    Some(size) => CastTarget::Size(size),
                     None => self.fill.cast_type(),
                 };
                 ExprKind::Cast { target, expr }
             }
-            "namedarg" => ExprKind::NamedArg { formal: self.fill.ident(), value: self.maybe_expr(at[0]).map(Box::new) },
-            "new" => ExprKind::New { size: self.boxed(at[0]), src: self.maybe_expr(at[1]).map(Box::new) },
+            "namedarg" => ExprKind::NamedArg { formal: self.fill.ident(), value: self.maybe(at[0], Self::boxed) },
+            "new" => ExprKind::New { size: self.boxed(at[0]), src: self.maybe(at[1], Self::boxed) },
             "opaque" => self.fill.opaque(),
             word => panic!("{word} is no expression"),
         }
@@ -154,7 +164,7 @@ impl Builder<'_> {
                 base: Box::new(self.lvalue(at[0])),
                 offset: self.boxed(at[1]),
                 width: self.boxed(at[2]),
-                dir: self.fill.pick(&[PartDir::PlusColon, PartDir::MinusColon]),
+                dir: self.fill.direction(),
                 span,
             },
             "lconcat" => Lvalue::Concat { parts: at.iter().map(|part| self.lvalue(*part)).collect(), span },
@@ -177,35 +187,16 @@ impl Builder<'_> {
 
     fn event(&mut self, i: usize) -> EventExpr {
         let at = self.children(i);
-        EventExpr { edge: self.fill.edge(), expr: self.expr(at[0]), iff: self.maybe_expr(at[1]), span: self.fill.span() }
+        EventExpr { edge: self.fill.edge(), expr: self.expr(at[0]), iff: self.maybe(at[1], Self::expr), span: self.fill.span() }
     }
 
-    fn maybe_delay(&mut self, i: usize) -> Option<Delay> {
-        if self.is_none(i) {
-            None
-        } else {
-            Some(self.delay(i))
-        }
-    }
-
-    fn maybe_intra(&mut self, i: usize) -> Option<IntraEvent> {
-        if self.is_none(i) {
-            return None;
-        }
+    fn intra(&mut self, i: usize) -> IntraEvent {
         let at = self.children(i);
-        Some(IntraEvent { repeat: self.maybe_expr(at[0]), ctrl: self.sensitivity(at[1]) })
+        IntraEvent { repeat: self.maybe(at[0], Self::expr), ctrl: self.sensitivity(at[1]) }
     }
 
     fn body(&mut self, i: usize) -> Box<Stmt> {
         Box::new(self.stmt(i))
-    }
-
-    fn maybe_body(&mut self, i: usize) -> Option<Box<Stmt>> {
-        if self.is_none(i) {
-            None
-        } else {
-            Some(self.body(i))
-        }
     }
 
     fn arm(&mut self, i: usize) -> CaseItem {
@@ -225,8 +216,8 @@ impl Builder<'_> {
         for i in of {
             let at = self.children(*i);
             let name = self.named(*i);
-            let init = self.maybe_expr(at[0]);
-            let name = DeclName { name, unpacked: self.fill.dims(), init, span: self.fill.span() };
+            let init = self.maybe(at[0], Self::expr);
+            let name = self.fill.declared(name, init);
             match found.last_mut() {
                 Some(last) if self.fill.flag() => last.names.push(name),
                 _ => found.push(self.fill.declaration(vec![name])),
@@ -251,21 +242,21 @@ impl Builder<'_> {
         }
         match word {
             "blocking" => {
-                let (delay, event) = (self.maybe_delay(at[0]), self.maybe_intra(at[1]));
+                let (delay, event) = (self.maybe(at[0], Self::delay), self.maybe(at[1], Self::intra));
                 Stmt::Blocking { lhs: self.lvalue(at[2]), delay, event, rhs: self.expr(at[3]), span }
             }
             "nonblocking" => {
-                let (delay, event) = (self.maybe_delay(at[0]), self.maybe_intra(at[1]));
+                let (delay, event) = (self.maybe(at[0], Self::delay), self.maybe(at[1], Self::intra));
                 Stmt::NonBlocking { lhs: self.lvalue(at[2]), delay, event, rhs: self.expr(at[3]), span }
             }
             "if" => Stmt::If {
                 cond: self.expr(at[0]),
                 then_s: self.body(at[1]),
-                else_s: self.maybe_body(at[2]),
+                else_s: self.maybe(at[2], Self::body),
                 span,
                 assertion: self.fill.pick(&[None, Some(AssertDirective::Assert), Some(AssertDirective::Assume)]),
             },
-            "return" => Stmt::Return { value: self.maybe_expr(at[0]), span },
+            "return" => Stmt::Return { value: self.maybe(at[0], Self::expr), span },
             "case" => Stmt::Case {
                 kind: self.fill.pick(&[CaseKind::Case, CaseKind::Casez, CaseKind::Casex, CaseKind::Inside]),
                 scrutinee: self.expr(at[0]),
@@ -293,32 +284,32 @@ impl Builder<'_> {
                 let declared = at.iter().take_while(|child| self.word(**child) == "decl").count();
                 let decls = self.declarations(&at[..declared]);
                 let stmts = at[declared..].iter().map(|child| self.stmt(*child)).collect();
-                Stmt::Block { label: self.fill.maybe_ident(), decls, stmts, span }
+                Stmt::Block { label: self.fill.maybe(Fill::ident), decls, stmts, span }
             }
             "fork" => Stmt::Fork {
-                label: self.fill.maybe_ident(),
+                label: self.fill.maybe(Fill::ident),
                 decls: self.fill.fork_declarations(),
                 stmts: at.iter().map(|child| self.stmt(*child)).collect(),
                 join: self.fill.pick(&[JoinKind::Join, JoinKind::JoinAny, JoinKind::JoinNone]),
                 span,
             },
-            "systask" => Stmt::SysTaskCall { name: self.fill.ident(), args: self.exprs(&at), span },
-            "task" => Stmt::UserTaskCall { name: self.called(at[0], side), args: self.exprs(&at[1..]), span },
-            "delayctrl" => Stmt::DelayCtrl { delay: self.delay(at[0]), body: self.maybe_body(at[1]), span },
-            "eventctrl" => Stmt::EventCtrl { ctrl: self.sensitivity(at[0]), body: self.maybe_body(at[1]), span },
-            "wait" => Stmt::Wait { cond: self.expr(at[0]), body: self.maybe_body(at[1]), span },
+            "systask" => Stmt::SysTaskCall { name: self.fill.system_name(), args: self.exprs(&at), span },
+            "task" => Stmt::UserTaskCall { name: self.task_path(at[0], side), args: self.exprs(&at[1..]), span },
+            "delayctrl" => Stmt::DelayCtrl { delay: self.delay(at[0]), body: self.maybe(at[1], Self::body), span },
+            "eventctrl" => Stmt::EventCtrl { ctrl: self.sensitivity(at[0]), body: self.maybe(at[1], Self::body), span },
+            "wait" => Stmt::Wait { cond: self.expr(at[0]), body: self.maybe(at[1], Self::body), span },
             "disable" => Stmt::Disable { target: self.path(at[0]), span },
             "concurrent" => Stmt::ConcurrentAssert {
                 clock: self.fill.sensitivity(),
-                disable_iff: Some(self.fill.expr()),
+                disable_iff: self.fill.maybe(Fill::expr),
                 antecedent: self.fill.sequence(),
                 implication_kind: self.fill.pick(&[ImplicationKind::Overlap, ImplicationKind::NonOverlap]),
                 consequent: self.fill.sequence(),
-                consequent_clock: None,
-                pass: self.maybe_body(at[0]),
-                fail: self.maybe_body(at[1]),
-                prop_expr: None,
-                local_vars: Vec::new(),
+                consequent_clock: self.fill.maybe(Fill::sensitivity),
+                pass: self.maybe(at[0], Self::body),
+                fail: self.maybe(at[1], Self::body),
+                prop_expr: self.fill.maybe(Fill::property),
+                local_vars: self.fill.local_variables(),
                 span,
             },
             "deferred" => Stmt::DeferredAssert {

@@ -4,7 +4,6 @@ use crate::answer::Answer;
 use crate::asking::Tree;
 use crate::fill::{Way, WAYS};
 use crate::reading;
-use crate::reading::kinds::KINDS;
 use crate::right;
 use crate::sheet::{Refused, Sheet, State};
 use crate::states;
@@ -12,7 +11,7 @@ use crate::tree::tree;
 use crate::{WRONG_READINGS, WRONG_WALKS};
 
 /// A walk of a tree with this start and sole, and a reading of a sheet's bytes, or of a state.
-pub type Walk = fn(&Tree, bool, bool) -> Answer;
+pub type Walk = fn(&Tree, bool, bool) -> Option<Answer>;
 pub type Load = fn(&[u8]) -> Result<Sheet, Refused>;
 pub type Held = fn(&State) -> Result<Sheet, Refused>;
 
@@ -36,7 +35,7 @@ pub fn all() -> Vec<Wrong> {
     walks.chain(readings).collect()
 }
 
-fn walked(sheet: &Sheet, walk: Walk) -> Answer {
+fn walked(sheet: &Sheet, walk: Walk) -> Option<Answer> {
     walk(&tree(sheet, Way::Mixed), sheet.start, sheet.sole)
 }
 
@@ -48,33 +47,19 @@ fn differs(right: &Result<Sheet, Refused>, wrong: &Result<Sheet, Refused>) -> bo
     }
 }
 
-/// The most && and || that stand in one another.
-fn short_circuits(sheet: &Sheet) -> usize {
-    let mut open: Vec<usize> = Vec::new();
-    let mut most = 0;
-    for (i, row) in sheet.rows.iter().enumerate() {
-        open.retain(|end| *end > i);
-        if KINDS[row.kind].word == "binary" && row.side > 0 {
-            open.push(row.end);
-            most = most.max(open.len());
-        }
-    }
-    most
-}
-
-/// With more of them a wrong walk may take too long, though the right one does not.
-const SHORT_CIRCUITS: usize = 12;
+/// A walk that takes long is of no use here: there are many of them, and a wrong one may take long where the right one does not.
+const FEW_QUESTIONS: u64 = 100_000;
 
 /// The numbers of the mistakes that an input tells, given how each reading reads it.
 fn told(wrongs: &[Wrong], right: &Result<Sheet, Refused>, read: impl Fn(Load, Held) -> Result<Sheet, Refused>) -> Vec<usize> {
-    let walked = right.as_ref().ok().filter(|sheet| short_circuits(sheet) <= SHORT_CIRCUITS);
-    let trees = walked.map(|sheet| (sheet, WAYS.map(|way| tree(sheet, way))));
-    let answer = trees.as_ref().map(|(sheet, trees)| right::asked(&trees[0], sheet.start, sheet.sole));
+    let trees =
+        right.as_ref().ok().map(|sheet| (sheet, WAYS.map(|way| Tree { most_questions: FEW_QUESTIONS, ..tree(sheet, way) })));
+    let answer = trees.as_ref().and_then(|(sheet, trees)| right::asked(&trees[0], sheet.start, sheet.sole));
     let tells = |wrong: &Wrong| match wrong.kind {
-        Kind::Walk(walk) => trees.as_ref().is_some_and(|(sheet, trees)| {
+        Kind::Walk(walk) => trees.as_ref().zip(answer).is_some_and(|((sheet, trees), answer)| {
             // A walk that looks at what sheets drop shows in one way of filling it in or another.
             let ways = if wrong.name.starts_with("dropped_") { &trees[..] } else { &trees[..1] };
-            ways.iter().any(|tree| Some(walk(tree, sheet.start, sheet.sole)) != answer)
+            ways.iter().any(|tree| walk(tree, sheet.start, sheet.sole).is_some_and(|wrong| wrong != answer))
         }),
         Kind::Reading(load, held) => differs(right, &read(load, held)),
     };

@@ -5,10 +5,10 @@ use super::draft::{leaf, node, Draft, Node, Spans};
 use crate::random::Random;
 use crate::reading::kinds::KINDS;
 
-/// Ways to damage a sheet, by name.
 type Damage = fn(&mut Random, &Draft) -> Vec<u8>;
 
-pub const WAYS: [(&str, Damage); 12] = [
+/// Ways to damage a sheet, by name.
+pub const WAYS: [(&str, Damage); 13] = [
     ("bytes", bytes),
     ("lines", lines),
     ("numbers", numbers),
@@ -21,6 +21,7 @@ pub const WAYS: [(&str, Damage); 12] = [
     ("children", children),
     ("several", several),
     ("limits", limits),
+    ("depth", deep),
 ];
 
 /// A sheet damaged in this way.
@@ -100,7 +101,7 @@ fn number_text(random: &mut Random, now: &[u8]) -> Vec<u8> {
     let value: u64 = std::str::from_utf8(now).ok().and_then(|text| text.parse().ok()).unwrap_or(0);
     let text = match random.below(16) {
         0 => value.wrapping_sub(1).to_string(),
-        1 | 2 => (value + 1).to_string(),
+        1 | 2 => value.wrapping_add(1).to_string(),
         3 => "0".to_string(),
         4 => "4294967295".to_string(),
         5 => "4294967296".to_string(),
@@ -112,50 +113,64 @@ fn number_text(random: &mut Random, now: &[u8]) -> Vec<u8> {
         11 => format!("+{value}"),
         12 => "00".to_string(),
         13 => format!("{value}0000000000"),
-        14 => format!("{:x}", value + 10),
+        14 => format!("{:x}", value.wrapping_add(10)),
         _ => random.below(3000).to_string(),
     };
     text.into_bytes()
 }
 
-/// The fields of a line after its key, and the key.
-fn parted(line: &[u8]) -> (Vec<u8>, Vec<Vec<u8>>) {
-    let line = line.strip_suffix(b"\n").unwrap_or(line);
-    let key = line.iter().position(|byte| *byte == b'=').map_or(0, |at| at + 1);
-    (line[..key].to_vec(), line[key..].split(|byte| *byte == b' ').map(<[u8]>::to_vec).collect())
+/// A line of a sheet taken apart: its key, and the fields after it.
+struct Line {
+    key: Vec<u8>,
+    fields: Vec<Vec<u8>>,
 }
 
-fn joined(key: &[u8], fields: &[Vec<u8>]) -> Vec<u8> {
-    let mut line = key.to_vec();
-    line.extend(fields.join(&b' '));
-    line.push(10);
-    line
+/// Changes one line of a sheet.
+fn change_line(lines: &mut [Vec<u8>], at: usize, change: impl FnOnce(&mut Line)) {
+    let text = lines[at].strip_suffix(b"\n").unwrap_or(&lines[at]);
+    let key = text.iter().position(|byte| *byte == b'=').map_or(0, |at| at + 1);
+    let fields = text[key..].split(|byte| *byte == b' ').map(<[u8]>::to_vec).collect();
+    let mut line = Line { key: text[..key].to_vec(), fields };
+    change(&mut line);
+    lines[at] = [line.key, line.fields.join(&b' '), b"\n".to_vec()].concat();
+}
+
+/// A sheet with one line changed, which is chosen from its lines.
+fn with_line(draft: &Draft, choose: impl FnOnce(&[Vec<u8>]) -> usize, change: impl FnOnce(&mut Line)) -> Vec<u8> {
+    let mut lines = split(&draft.text());
+    let at = choose(&lines);
+    change_line(&mut lines, at, change);
+    lines.concat()
 }
 
 /// A number anywhere.
 fn numbers(random: &mut Random, draft: &Draft) -> Vec<u8> {
-    let mut lines = split(&draft.text());
-    let at = random.below(lines.len());
-    let (key, mut fields) = parted(&lines[at]);
-    let field = random.below(fields.len());
-    fields[field] = number_text(random, &fields[field]);
-    lines[at] = joined(&key, &fields);
-    lines.concat()
+    let which = random.next() as usize;
+    with_line(
+        draft,
+        |lines| which % lines.len(),
+        |line| {
+            let field = random.below(line.fields.len());
+            line.fields[field] = number_text(random, &line.fields[field]);
+        },
+    )
 }
 
 /// The lines that hold one number.
 fn header(random: &mut Random, draft: &Draft) -> Vec<u8> {
-    let mut lines = split(&draft.text());
     let count = draft.names.len();
     let at = *random.pick(&[0, 1, count + 2, count + 3, count + 4, count + 5]);
-    let (key, fields) = parted(&lines[at]);
-    let text = match random.below(4) {
-        0 => random.pick(&["0", "1", "2", "3", "500", "501", "2000", "2001"]).as_bytes().to_vec(),
-        1 => count.to_string().into_bytes(),
-        _ => number_text(random, &fields[0]),
-    };
-    lines[at] = joined(&key, &[text]);
-    lines.concat()
+    with_line(
+        draft,
+        |_| at,
+        |line| {
+            line.fields[0] = match random.below(4) {
+                0 => random.pick(&["0", "1", "2", "3", "500", "501", "2000", "2001"]).as_bytes().to_vec(),
+                1 => count.to_string().into_bytes(),
+                _ => number_text(random, &line.fields[0]),
+            }
+        },
+    )
 }
 
 /// Names too long, empty, out of order, repeated, or with a byte that no name has.
@@ -181,90 +196,84 @@ fn names(random: &mut Random, draft: &Draft) -> Vec<u8> {
     draft.text()
 }
 
-/// The line of a row at random, and where it stands.
-fn row_line(random: &mut Random, draft: &Draft, lines: &[Vec<u8>]) -> usize {
-    lines.len() - 1 - random.below(draft.root.rows())
+/// A sheet with the line of some row changed.
+fn with_row(random: &mut Random, draft: &Draft, change: impl FnOnce(&mut Random, &mut Line)) -> Vec<u8> {
+    let row = random.below(draft.root.rows());
+    with_line(draft, |lines| lines.len() - 1 - row, |line| change(random, line))
 }
 
 /// More or fewer fields, or spaces elsewhere.
 fn fields(random: &mut Random, draft: &Draft) -> Vec<u8> {
-    let mut lines = split(&draft.text());
-    let at = row_line(random, draft, &lines);
-    let (mut key, mut fields) = parted(&lines[at]);
-    let field = random.below(fields.len());
-    match random.below(7) {
-        0 => {
-            fields.remove(field);
+    with_row(random, draft, |random, line| {
+        let field = random.below(line.fields.len());
+        match random.below(7) {
+            0 => drop(line.fields.remove(field)),
+            1 => line.fields.insert(field, b"0".to_vec()),
+            2 => line.fields.insert(field, Vec::new()),
+            3 => line.fields.push(Vec::new()),
+            4 => line.fields[field] = Vec::new(),
+            5 => line.fields[field].push(*random.pick(b"\t\r;,=")),
+            _ => line.key = random.pick(&["row ", "row", "Row=", "rows=", "name=", "=", ""]).as_bytes().to_vec(),
         }
-        1 => fields.insert(field, b"0".to_vec()),
-        2 => fields.insert(field, Vec::new()),
-        3 => fields.push(Vec::new()),
-        4 => fields[field] = Vec::new(),
-        5 => fields[field].push(*random.pick(b"\t\r;,=")),
-        _ => key = random.pick(&["row ", "row", "Row=", "rows=", "name=", "=", ""]).as_bytes().to_vec(),
-    }
-    lines[at] = joined(&key, &fields);
-    lines.concat()
+    })
 }
 
-/// The end of a row.
+/// Another end for a row with this number: around it, or at a limit.
+fn other_end(random: &mut Random, row: usize, end: usize, rows: usize) -> usize {
+    match random.below(8) {
+        0 => end.saturating_sub(1),
+        1 => end + 1,
+        2 => row,
+        3 => row + 1,
+        4 => rows,
+        5 => rows + 1,
+        6 => 0,
+        _ => random.below(rows + 2),
+    }
+}
+
+/// The ends of one row or two.
 fn ends(random: &mut Random, draft: &Draft) -> Vec<u8> {
     let mut lines = split(&draft.text());
+    let rows = draft.root.rows();
+    let first = lines.len() - rows;
     for _ in 0..random.between(1, 2) {
-        let at = row_line(random, draft, &lines);
-        let (key, mut fields) = parted(&lines[at]);
-        let end: i64 = std::str::from_utf8(&fields[4]).expect("digits").parse().expect("an end");
-        let row = (at + draft.root.rows() - lines.len()) as i64;
-        let to = match random.below(8) {
-            0 => end - 1,
-            1 => end + 1,
-            2 => row,
-            3 => row + 1,
-            4 => draft.root.rows() as i64,
-            5 => draft.root.rows() as i64 + 1,
-            6 => 0,
-            _ => random.below(draft.root.rows() + 2) as i64,
-        };
-        fields[4] = to.max(0).to_string().into_bytes();
-        lines[at] = joined(&key, &fields);
+        let row = random.below(rows);
+        change_line(&mut lines, first + row, |line| {
+            let end = std::str::from_utf8(&line.fields[4]).expect("digits").parse().expect("an end");
+            line.fields[4] = other_end(random, row, end, rows).to_string().into_bytes();
+        });
     }
     lines.concat()
 }
 
 /// The side of a row.
 fn sides(random: &mut Random, draft: &Draft) -> Vec<u8> {
-    let mut lines = split(&draft.text());
-    let at = row_line(random, draft, &lines);
-    let (key, mut fields) = parted(&lines[at]);
     let names = draft.names.len();
-    fields[1] = match random.below(4) {
-        0 => random.between(0, 9).to_string(),
-        1 => names.to_string(),
-        2 => (names - 1).to_string(),
-        _ => random.pick(&["1", "2", "3", "4", "7", "8", "4294967295"]).to_string(),
-    }
-    .into_bytes();
-    lines[at] = joined(&key, &fields);
-    lines.concat()
+    with_row(random, draft, |random, line| {
+        let side = match random.below(4) {
+            0 => random.between(0, 9).to_string(),
+            1 => names.to_string(),
+            2 => (names - 1).to_string(),
+            _ => random.pick(&["1", "2", "3", "4", "7", "8", "4294967295"]).to_string(),
+        };
+        line.fields[1] = side.into_bytes();
+    })
 }
 
 /// The word of a row: another kind's, or none.
 fn words(random: &mut Random, draft: &Draft) -> Vec<u8> {
-    let mut lines = split(&draft.text());
-    let at = row_line(random, draft, &lines);
-    let (key, mut fields) = parted(&lines[at]);
-    let word = KINDS[random.below(66)].word;
-    let shorter = &word[..word.len() - 1];
-    fields[0] = match random.below(6) {
-        0 | 1 => word.to_string(),
-        2 => shorter.to_string(),
-        3 => format!("{word}{}", *random.pick(b"asx0") as char),
-        4 => word.to_uppercase(),
-        _ => word.chars().rev().collect(),
-    }
-    .into_bytes();
-    lines[at] = joined(&key, &fields);
-    lines.concat()
+    with_row(random, draft, |random, line| {
+        let word = random.pick(&KINDS).word;
+        let other = match random.below(6) {
+            0 | 1 => word.to_string(),
+            2 => word[..word.len() - 1].to_string(),
+            3 => format!("{word}{}", *random.pick(b"asx0") as char),
+            4 => word.to_uppercase(),
+            _ => word.chars().rev().collect(),
+        };
+        line.fields[0] = other.into_bytes();
+    })
 }
 
 /// Some row with the smallest children that fit it, as a thing to put where it may not stand.
@@ -278,7 +287,7 @@ fn stray(random: &mut Random) -> Node {
         4 => node("lident", 0, vec![path()]),
         5 => node("decl", 0, vec![leaf("none")]),
         6 => node("default", 0, vec![leaf("null")]),
-        _ => Node { kind: random.below(66), side: 0, children: vec![] },
+        _ => Node { kind: random.below(KINDS.len()), side: 0, children: vec![] },
     }
 }
 
@@ -300,7 +309,7 @@ fn change_children(random: &mut Random, root: &mut Node) {
         }
         3 if count > 0 => node.children[random.below(count)] = stray(random),
         4 => {
-            node.kind = random.below(66);
+            node.kind = random.below(KINDS.len());
             node.side = 0;
         }
         _ => {
@@ -319,7 +328,7 @@ fn children(random: &mut Random, draft: &Draft) -> Vec<u8> {
     draft.text()
 }
 
-/// Several faults at once: which comes first is a matter of the order.
+/// Several faults at once, a lost last line among them: which comes first is a matter of the order.
 fn several(random: &mut Random, draft: &Draft) -> Vec<u8> {
     let mut draft = draft.clone();
     if random.percent(50) {
@@ -328,15 +337,18 @@ fn several(random: &mut Random, draft: &Draft) -> Vec<u8> {
     let mut lines = split(&draft.text());
     for _ in 0..random.between(2, 3) {
         let at = random.below(lines.len());
-        let (key, mut fields) = parted(&lines[at]);
-        let field = random.below(fields.len());
-        match random.below(4) {
-            0 => fields[field] = number_text(random, &fields[field]),
-            1 => fields[field] = b"zz".to_vec(),
-            2 => fields.push(b"1".to_vec()),
-            _ => fields[field] = random.below(9).to_string().into_bytes(),
-        }
-        lines[at] = joined(&key, &fields);
+        change_line(&mut lines, at, |line| {
+            let field = random.below(line.fields.len());
+            match random.below(4) {
+                0 => line.fields[field] = number_text(random, &line.fields[field]),
+                1 => line.fields[field] = b"zz".to_vec(),
+                2 => line.fields.push(b"1".to_vec()),
+                _ => line.fields[field] = random.below(9).to_string().into_bytes(),
+            }
+        });
+    }
+    if random.percent(25) {
+        lines.pop();
     }
     lines.concat()
 }
@@ -369,10 +381,22 @@ fn sized(size: usize, kind: &str) -> Vec<u8> {
     draft.text()
 }
 
+/// Around depth 100, alone or with another fault.
+fn deep(random: &mut Random, draft: &Draft) -> Vec<u8> {
+    let mut draft = draft.clone();
+    let chain = nested(random.between(98, 102));
+    draft.root = if random.percent(50) { chain } else { node("block", 0, vec![chain, draft.root]) };
+    match random.below(3) {
+        0 => draft.text(),
+        1 => ends(random, &draft),
+        _ => children(random, &draft),
+    }
+}
+
 /// At the limits, and one past them.
 fn limits(random: &mut Random, draft: &Draft) -> Vec<u8> {
     let mut draft = draft.clone();
-    match random.below(6) {
+    match random.below(5) {
         0 => {
             draft.names = many_names(random.between(499, 501));
             draft.local = random.between(498, 501);
@@ -381,18 +405,12 @@ fn limits(random: &mut Random, draft: &Draft) -> Vec<u8> {
             let rows = random.between(1999, 2001);
             draft.root = node("block", 0, vec![leaf("null"); rows - 1]);
         }
-        2 => draft.root = nested(random.between(99, 102)),
-        3 => {
+        2 => {
             let kind = random.pick(&["null", "null", "lit"]);
             return sized(random.between(65_535, 65_538), kind);
         }
-        4 => {
-            let size = random.between(63, 66);
-            draft.names[0] = vec![b'!'; size];
-        }
-        _ => {
-            draft.root = node("block", 0, vec![nested(random.between(98, 101)), draft.root]);
-        }
+        3 => draft.names[0] = vec![b'!'; random.between(63, 66)],
+        _ => return deep(random, &draft),
     }
     draft.text()
 }

@@ -28,6 +28,10 @@ impl Node {
         1 + self.children.iter().map(Node::rows).sum::<usize>()
     }
 
+    pub fn depth(&self) -> usize {
+        1 + self.children.iter().map(Node::depth).max().unwrap_or(0)
+    }
+
     /// The node with this row number.
     pub fn at_mut(&mut self, mut row: usize) -> &mut Node {
         let mut node = self;
@@ -42,6 +46,11 @@ impl Node {
         }
         node
     }
+}
+
+/// "1 if it begins `$break$` or `$continue$`."
+pub fn is_jump(name: &[u8]) -> bool {
+    name.starts_with(b"$break$") || name.starts_with(b"$continue$")
 }
 
 /// What the rows of a sheet carry as lo and hi.

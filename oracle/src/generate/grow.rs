@@ -1,12 +1,12 @@
 //! Sheets at random: trees grown along the table of kinds, with kinds, mentions and sizes weighted anew for each sheet.
 
-use super::draft::{kind_of, leaf, node, Draft, Node, Spans};
+use super::draft::{is_jump, kind_of, leaf, node, Draft, Node, Spans};
 use crate::random::Random;
 use crate::reading::kinds::{is_of, Class, Item, Side, KINDS};
 use std::collections::BTreeSet;
 
-/// The deepest row that may still hold an expression with a path.
-const DEEPEST: usize = 97;
+/// The deepest row that may still hold a path with a segment.
+const DEEPEST: usize = 98;
 
 struct Grower<'a> {
     random: &'a mut Random,
@@ -14,16 +14,17 @@ struct Grower<'a> {
     local: usize,
     /// The names of loop jumps.
     jumps: Vec<usize>,
-    weights: [usize; 66],
+    weights: [usize; KINDS.len()],
     /// Of a hundred paths, how many begin with the local.
     mention: usize,
     /// How many rows are still wanted.
     left: usize,
 }
 
-/// Kinds that end a branch, for when enough rows are there.
+/// Kinds that end a branch, for when enough rows are there, and those of them that hold nothing.
 const SMALL: [&str; 12] =
     ["null", "disable", "return", "systask", "task", "lit", "ident", "lident", "star", "default", "match", "block"];
+const TINY: [&str; 6] = ["null", "systask", "lit", "lerror", "star", "block"];
 
 impl Grower<'_> {
     fn seg(&mut self, name: usize) -> Node {
@@ -69,24 +70,35 @@ impl Grower<'_> {
         }
     }
 
+    /// The kinds of a class to choose from, fewer where a branch is to end.
+    fn open_kinds(&self, class: Class, depth: usize) -> Vec<usize> {
+        let all: Vec<usize> = (0..KINDS.len()).filter(|kind| is_of(*kind, class)).collect();
+        let words: &[&str] = match depth {
+            _ if depth > DEEPEST => &TINY,
+            _ if depth == DEEPEST || self.left == 0 => &SMALL,
+            _ => return all,
+        };
+        let few: Vec<usize> = all.iter().copied().filter(|kind| words.contains(&KINDS[*kind].word)).collect();
+        if few.is_empty() {
+            all
+        } else {
+            few
+        }
+    }
+
     fn kind(&mut self, class: Class, depth: usize) -> usize {
-        let ending = self.left == 0 || depth >= DEEPEST;
-        let open: Vec<usize> = (0..66).filter(|k| is_of(*k, class)).collect();
-        let small = |k: &&usize| SMALL.contains(&KINDS[**k].word);
-        let open: Vec<usize> =
-            if ending && open.iter().any(|k| small(&k)) { open.iter().filter(small).copied().collect() } else { open };
-        let all: usize = open.iter().map(|k| self.weights[*k]).sum();
+        let open = self.open_kinds(class, depth);
+        let all: usize = open.iter().map(|kind| self.weights[*kind]).sum();
         if all == 0 {
             return *self.random.pick(&open);
         }
         let mut at = self.random.below(all);
-        for kind in &open {
-            if at < self.weights[*kind] {
-                return *kind;
-            }
-            at -= self.weights[*kind];
-        }
-        unreachable!("below the sum of the weights")
+        let chosen = open.iter().find(|kind| {
+            let here = at < self.weights[**kind];
+            at = at.wrapping_sub(self.weights[**kind]);
+            here
+        });
+        *chosen.expect("below the sum of the weights")
     }
 
     fn grow(&mut self, class: Class, depth: usize) -> Node {
@@ -190,7 +202,7 @@ impl Grower<'_> {
 
 /// Names for a sheet: some that begin as loop jumps do, some that nearly do, some at the limits, in byte order.
 fn names(random: &mut Random) -> Vec<Vec<u8>> {
-    const POOL: [&str; 22] = [
+    const POOL: [&str; 24] = [
         "$break$1",
         "$break$",
         "$continue$2",
@@ -199,6 +211,8 @@ fn names(random: &mut Random) -> Vec<Vec<u8>> {
         "$continue",
         "$breaks$1",
         "$Break$1",
+        "a$break$1",
+        "x$continue$",
         "a",
         "b",
         "c",
@@ -231,13 +245,9 @@ fn names(random: &mut Random) -> Vec<Vec<u8>> {
     found.into_iter().collect()
 }
 
-fn is_jump(name: &[u8]) -> bool {
-    name.starts_with(b"$break$") || name.starts_with(b"$continue$")
-}
-
 /// Weights for the kinds: some out, some often.
-fn weights(random: &mut Random) -> [usize; 66] {
-    let mut weights = [0; 66];
+fn weights(random: &mut Random) -> [usize; KINDS.len()] {
+    let mut weights = [0; KINDS.len()];
     for weight in &mut weights {
         *weight = *random.pick(&[0, 1, 1, 2, 4]);
     }
@@ -272,10 +282,10 @@ fn grown(random: &mut Random, names: &[Vec<u8>], local: usize) -> Node {
         0 => {
             let deepest = grower.random.between(50, 100);
             grower.left = 1;
-            grower.deep(Class::S, 1, deepest.min(98))
+            grower.deep(Class::S, 1, deepest)
         }
         1 => {
-            let length = grower.random.between(1, 16);
+            let length = grower.random.between(1, 13);
             let cond = grower.chain(length);
             let then = grower.grow(Class::S, 2);
             let after = grower.grow(Class::S, 2);
@@ -301,7 +311,7 @@ pub fn sheet(random: &mut Random) -> Draft {
         let start = u32::from(random.percent(25));
         let sole = u32::from(random.percent(60));
         let draft = Draft { names, local, start, sole, spans, root };
-        if draft.root.rows() <= 2000 && draft.text().len() <= 65_536 {
+        if draft.root.rows() <= 2000 && draft.root.depth() <= 100 && draft.text().len() <= 65_536 {
             return draft;
         }
     }

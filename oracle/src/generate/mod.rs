@@ -3,6 +3,7 @@
 pub mod damage;
 pub mod draft;
 mod grow;
+mod misfit;
 mod systematic;
 
 use crate::frames;
@@ -19,16 +20,22 @@ pub struct Made {
 pub struct Generator {
     seed: u64,
     systematic: Systematic,
+    misfits: Vec<draft::Node>,
 }
 
 impl Generator {
     pub fn new(seed: u64) -> Generator {
-        Generator { seed, systematic: Systematic::new() }
+        Generator { seed, systematic: Systematic::new(), misfits: misfit::all() }
     }
 
     /// How many sheets the plan has.
     pub fn planned(&self) -> usize {
         self.systematic.count()
+    }
+
+    /// So many of its sheets have the whole plan among them.
+    pub fn whole_plan(&self) -> usize {
+        self.planned().div_ceil(2) * 6
     }
 
     fn at_random(&self, random: &mut Random) -> draft::Draft {
@@ -38,7 +45,11 @@ impl Generator {
         grow::sheet(random)
     }
 
-    fn damaged(&self, random: &mut Random) -> Made {
+    /// A damaged sheet: the misfits come first.
+    fn damaged(&self, random: &mut Random, count: usize) -> Made {
+        if let Some(misfit) = self.misfits.get(count) {
+            return Made { bytes: systematic::unwritten(misfit.clone()).text(), origin: "damaged misfit".to_string() };
+        }
         let way = random.below(damage::WAYS.len());
         let small = random.percent(50);
         let good = if small { self.systematic.sheet(random.below(self.planned())) } else { grow::sheet(random) };
@@ -49,7 +60,7 @@ impl Generator {
     pub fn plan_number(&self, number: usize) -> Option<usize> {
         let (six, which) = (number / 6, number % 6);
         let planned = (six * 2 + which).checked_sub(2).filter(|planned| (2..4).contains(&which) && *planned < self.planned())?;
-        // A prime step, so that few of them already stand for all.
+        // A prime step, so that the first few come from every part of the plan.
         Some(planned * 1_000_003 % self.planned())
     }
 
@@ -57,7 +68,7 @@ impl Generator {
     pub fn sheet(&self, number: usize) -> Made {
         let mut random = Random::new(self.seed, number as u64);
         if number % 6 < 2 {
-            return self.damaged(&mut random);
+            return self.damaged(&mut random, number / 6 * 2 + number % 6);
         }
         match self.plan_number(number) {
             Some(planned) => Made { bytes: self.systematic.sheet(planned).text(), origin: "planned".to_string() },

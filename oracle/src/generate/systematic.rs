@@ -66,48 +66,50 @@ fn atoms() -> Vec<Node> {
     found
 }
 
-/// The atoms that an operand needs: quiet, reading, writing, and a call that only refers.
+/// The atoms that an operand needs: quiet, reading, writing with a mention and without, and a call that only refers.
 fn few() -> Vec<Node> {
-    vec![c(), x(), wx(), call(2, "w", vec![x()])]
+    vec![c(), x(), wx(), call(1, "w", vec![]), call(2, "w", vec![x()])]
 }
 
-/// Every kind of expression over atoms.
-fn one_layer() -> Vec<Node> {
-    let (atoms, few) = (atoms(), few());
-    let mut found = atoms.clone();
-    for a in &atoms {
+/// Kinds with one operand, with two and with three, and with any count.
+const ONE: [&str; 7] = ["paren", "namedarg", "concat", "syscall", "pattern", "replicate", "method"];
+const ONE_OR_NONE: [&str; 2] = ["cast", "new"];
+const TWO: [&str; 8] = ["bitsel", "concat", "syscall", "pattern", "replicate", "method", "cast", "new"];
+const THREE: [&str; 6] = ["ternary", "partsel", "indexed", "mtm", "concat", "method"];
+
+/// Operators over atoms, one of the two any atom.
+fn operators() -> Vec<Node> {
+    let mut found = Vec::new();
+    for a in &atoms() {
         found.extend([one("unary", 0, a), one("unary", 1, a), one("paren", 0, a)]);
-        for b in &few {
+        for b in &few() {
             found.extend((0..3).flat_map(|side| [two(side, a, b), two(side, b, a)]));
         }
     }
-    for a in &few {
-        for word in ["concat", "syscall", "pattern", "replicate", "method"] {
-            found.push(one(word, 0, a));
-        }
-        for word in ["cast", "new"] {
-            found.push(node(word, 0, vec![a.clone(), none()]));
-        }
-        found.push(one("namedarg", 0, a));
-        for b in &few {
-            for word in ["bitsel", "concat", "syscall", "pattern", "replicate", "method", "cast", "new"] {
-                found.push(node(word, 0, vec![a.clone(), b.clone()]));
-            }
-            for side in 0..4 {
-                found.push(call(side, "w", vec![a.clone(), b.clone()]));
-            }
-            for d in &few {
-                for word in ["ternary", "partsel", "indexed", "mtm", "concat", "method"] {
-                    found.push(node(word, 0, vec![a.clone(), b.clone(), d.clone()]));
-                }
-            }
-        }
-    }
-    for word in ["concat", "syscall", "pattern"] {
-        found.push(leaf(word));
-    }
-    found.push(one("namedarg", 0, &none()));
     found
+}
+
+/// Every other kind of expression over these atoms.
+fn forms(of: &[Node]) -> Vec<Node> {
+    let mut found: Vec<Node> = ["concat", "syscall", "pattern"].map(leaf).to_vec();
+    found.push(one("namedarg", 0, &none()));
+    for a in of {
+        found.extend(ONE.map(|word| one(word, 0, a)));
+        found.extend(ONE_OR_NONE.map(|word| node(word, 0, vec![a.clone(), none()])));
+    }
+    for (a, b) in of.iter().flat_map(|a| of.iter().map(move |b| (a, b))) {
+        found.extend(TWO.map(|word| node(word, 0, vec![a.clone(), b.clone()])));
+        found.extend((0..4).map(|side| call(side, "w", vec![a.clone(), b.clone()])));
+        for d in of {
+            found.extend(THREE.map(|word| node(word, 0, vec![a.clone(), b.clone(), d.clone()])));
+        }
+    }
+    found
+}
+
+/// Every kind of expression over atoms, and these first.
+fn one_layer() -> Vec<Node> {
+    [atoms(), operators(), forms(&few())].concat()
 }
 
 /// Operators over operators: what the short circuit and the two outcomes turn on.
@@ -251,10 +253,6 @@ fn systask(args: Vec<Node>) -> Node {
     node("systask", 0, args)
 }
 
-fn select(word: &str, parts: Vec<Node>) -> Node {
-    node(word, 0, parts)
-}
-
 /// Statements with one expression in them, for each place where its effect or its outcome tells.
 fn telling_places(e: &Node) -> Vec<Node> {
     let e = || e.clone();
@@ -303,16 +301,16 @@ fn places(e: &Node) -> Vec<Node> {
     let star = || leaf("star");
     let on = |of: Node| list(vec![event(of, none())]);
     let others = vec![
-        assign(select("lbit", vec![lx(), c()]), e()),
-        assign(select("lbit", vec![lx(), e()]), c()),
-        assign(select("lbit", vec![ly(), e()]), c()),
-        assign(select("lbit", vec![ly(), x()]), e()),
-        assign(select("lpart", vec![ly(), e(), c()]), c()),
-        assign(select("lpart", vec![ly(), c(), e()]), wx()),
-        assign(select("lidx", vec![ly(), e(), c()]), c()),
-        assign(select("lidx", vec![ly(), c(), e()]), wx()),
-        assign(select("lconcat", vec![lx(), ly()]), e()),
-        assign(select("lconcat", vec![ly(), select("lbit", vec![ly(), e()])]), c()),
+        assign(node("lbit", 0, vec![lx(), c()]), e()),
+        assign(node("lbit", 0, vec![lx(), e()]), c()),
+        assign(node("lbit", 0, vec![ly(), e()]), c()),
+        assign(node("lbit", 0, vec![ly(), x()]), e()),
+        assign(node("lpart", 0, vec![ly(), e(), c()]), c()),
+        assign(node("lpart", 0, vec![ly(), c(), e()]), wx()),
+        assign(node("lidx", 0, vec![ly(), e(), c()]), c()),
+        assign(node("lidx", 0, vec![ly(), c(), e()]), wx()),
+        assign(node("lconcat", 0, vec![lx(), ly()]), e()),
+        assign(node("lconcat", 0, vec![ly(), node("lbit", 0, vec![ly(), e()])]), c()),
         assign(lident("x.f"), e()),
         assign(lident("f.x"), e()),
         assign(leaf("lerror"), e()),
@@ -325,11 +323,17 @@ fn places(e: &Node) -> Vec<Node> {
         timed("blocking", none(), intra(e(), on(c())), ly(), wx()),
         timed("blocking", delay(vec![e()]), intra(none(), on(x())), ly(), x()),
         timed("blocking", none(), intra(none(), on(x())), ly(), e()),
+        timed("blocking", none(), intra(e(), star()), node("lbit", 0, vec![lx(), c()]), c()),
+        timed("blocking", delay(vec![e()]), none(), node("lbit", 0, vec![lx(), c()]), c()),
+        timed("blocking", none(), intra(none(), on(e())), ly(), c()),
         later(lx(), e()),
-        later(select("lbit", vec![lx(), c()]), e()),
-        later(select("lbit", vec![ly(), e()]), c()),
+        later(node("lbit", 0, vec![lx(), c()]), e()),
+        later(node("lbit", 0, vec![ly(), e()]), c()),
         timed("nonblocking", delay(vec![e()]), none(), ly(), c()),
         timed("nonblocking", none(), intra(none(), on(e())), lx(), c()),
+        timed("nonblocking", none(), intra(e(), star()), lx(), c()),
+        later(node("lpart", 0, vec![ly(), e(), c()]), c()),
+        later(node("lidx", 0, vec![ly(), c(), e()]), c()),
         timed("nonblocking", none(), intra(none(), list(vec![event(c(), e())])), ly(), c()),
         if_else(e(), returned(none()), returned(none())),
         if_else(c(), assign(ly(), e()), none()),
@@ -338,6 +342,8 @@ fn places(e: &Node) -> Vec<Node> {
         case(e(), vec![arm(returned(none()), vec![c()]), default(disable("$break$1"))]),
         case(c(), vec![arm(write_x(), vec![c(), e()]), default(write_x())]),
         case(c(), vec![default(write_x()), arm(write_x(), vec![e()])]),
+        case(c(), vec![default(read_x()), arm(null(), vec![e()])]),
+        case(c(), vec![arm(read_x(), vec![c()]), arm(null(), vec![e(), x()])]),
         case(wx(), vec![arm(null(), vec![e()])]),
         for_loop(0, null(), e(), null(), null()),
         for_loop(0, assign(ly(), e()), c(), null(), read_x()),
@@ -367,6 +373,32 @@ fn places(e: &Node) -> Vec<Node> {
     [telling, others].concat()
 }
 
+/// Each kind that holds statements, with this one in each of its places and nothing that refers in the others.
+fn compound(s: &Node) -> Vec<Node> {
+    let s = || s.clone();
+    vec![
+        if_else(c(), s(), none()),
+        if_else(c(), null(), s()),
+        case(c(), vec![arm(s(), vec![c()])]),
+        case(c(), vec![arm(null(), vec![c()]), default(s())]),
+        for_loop(0, s(), c(), null(), null()),
+        for_loop(0, null(), c(), s(), null()),
+        for_loop(0, null(), c(), null(), s()),
+        while_loop(0, c(), s()),
+        repeat(0, c(), s()),
+        forever(0, s()),
+        block(vec![null(), s()]),
+        node("fork", 0, vec![null(), s()]),
+        node("delayctrl", 0, vec![delay(vec![c()]), s()]),
+        node("eventctrl", 0, vec![leaf("star"), s()]),
+        node("wait", 0, vec![c(), s()]),
+        node("concurrent", 0, vec![s(), none()]),
+        node("concurrent", 0, vec![none(), s()]),
+        node("deferred", 0, vec![s(), null()]),
+        node("deferred", 0, vec![null(), s()]),
+    ]
+}
+
 /// Statements to put into others.
 fn statements() -> Vec<Node> {
     let on = |of: Node| list(vec![event(of, none())]);
@@ -376,9 +408,9 @@ fn statements() -> Vec<Node> {
         read_x(),
         write_x(),
         assign(lx(), x()),
-        assign(select("lbit", vec![lx(), c()]), c()),
+        assign(node("lbit", 0, vec![lx(), c()]), c()),
         assign(ly(), wx()),
-        assign(select("lbit", vec![lx(), c()]), wx()),
+        assign(node("lbit", 0, vec![lx(), c()]), wx()),
         later(lx(), c()),
         later(ly(), x()),
         later(ly(), wx()),
@@ -413,6 +445,7 @@ fn statements() -> Vec<Node> {
         task(2, "f.g", vec![]),
         task(2, "x.g", vec![]),
         task(2, "f.g.c", vec![]),
+        task(2, "f.g", vec![c(), x()]),
         node("delayctrl", 0, vec![delay(vec![c()]), none()]),
         node("delayctrl", 0, vec![delay(vec![]), write_x()]),
         node("delayctrl", 0, vec![delay(vec![x()]), none()]),
@@ -453,6 +486,8 @@ fn statements() -> Vec<Node> {
         block(vec![decl("y", x())]),
         block(vec![decl("y", wx()), read_x()]),
     ];
+    found.extend(compound(&null()));
+    found.extend(compound(&disable("$break$1")));
     found.extend((0..8).map(|side| task(side, "f", vec![])));
     for word in ["randstmt", "trigger", "waitfork", "passign", "deassign", "force", "release", "cover", "error"] {
         found.push(leaf(word));
@@ -548,10 +583,17 @@ pub struct Systematic {
     simple: Vec<Node>,
     nested: Vec<Node>,
     statements: Vec<Node>,
+    /// How many sheets each part has.
+    parts: [usize; 5],
 }
 
 /// Starts and soles, the unwritten start of a sole writer first.
 const RUNS: [(u32, u32); 4] = [(0, 1), (0, 0), (1, 1), (1, 0)];
+
+/// A sheet with these names, from the start of a sole writer that has not written.
+pub fn unwritten(root: Node) -> Draft {
+    draft(root, RUNS[0])
+}
 
 fn draft(root: Node, (start, sole): (u32, u32)) -> Draft {
     let names = NAMES.iter().map(|name| name.as_bytes().to_vec()).collect();
@@ -560,33 +602,28 @@ fn draft(root: Node, (start, sole): (u32, u32)) -> Draft {
 
 impl Systematic {
     pub fn new() -> Systematic {
-        Systematic { simple: one_layer(), nested: two_layers(), statements: statements() }
-    }
-
-    /// How many sheets each part has.
-    fn parts(&self) -> [usize; 5] {
+        let (simple, nested, statements) = (one_layer(), two_layers(), statements());
         let (places, telling) = (places(&c()).len(), telling_places(&c()).len());
-        let statements = self.statements.len();
-        [
-            self.simple.len() * places,
+        let parts = [
+            simple.len() * places,
             atoms().len() * places * 3,
-            self.nested.len() * telling,
-            statements * around(&null()).len() * 4,
-            statements * statements * beside(&null(), &null()).len() * 2,
-        ]
+            nested.len() * telling,
+            statements.len() * around(&null()).len() * 4,
+            statements.len() * statements.len() * beside(&null(), &null()).len() * 2,
+        ];
+        Systematic { simple, nested, statements, parts }
     }
 
     pub fn count(&self) -> usize {
-        self.parts().iter().sum()
+        self.parts.iter().sum()
     }
 
     /// The sheet of this number, below the count: the part that the number falls into, and then its digits, one for each choice.
     pub fn sheet(&self, number: usize) -> Draft {
-        let parts = self.parts();
         let mut left = number;
         let mut part = 0;
-        while left >= parts[part] {
-            left -= parts[part];
+        while left >= self.parts[part] {
+            left -= self.parts[part];
             part += 1;
         }
         let pick = &mut |count: usize| {

@@ -1,6 +1,6 @@
 //! Document 01's table of kinds: "each word, its side numbers and its children".
 
-/// What may stand at a place: one of the document's letters, or one of the kinds that stand at one place only.
+/// What may stand at a place: one of the document's letters, or a kind that the document names there.
 #[derive(Clone, Copy, PartialEq, Eq, Debug)]
 pub enum Class {
     Path,

@@ -10,17 +10,17 @@ use kinds::KINDS;
 /// The lines that are left, and the number of the line read last.
 struct Lines<'a> {
     left: &'a [u8],
-    number: usize,
+    last: usize,
 }
 
 impl<'a> Lines<'a> {
     fn refused<T>(&self, number: u32) -> Result<T, Refused> {
-        Err(Refused { number, place: self.number })
+        Err(Refused { number, place: self.last })
     }
 
     /// What stands after its key on the next line. 1: "missing .. line, wrong key, a last line without byte 10".
     fn after_key(&mut self, key: &str) -> Result<&'a [u8], Refused> {
-        self.number += 1;
+        self.last += 1;
         let Some(end) = self.left.iter().position(|byte| *byte == 10) else {
             return self.refused(1);
         };
@@ -82,7 +82,7 @@ fn decimal(text: &[u8]) -> Option<u32> {
 
 /// The lines of a sheet, from the first to the last.
 fn lines(bytes: &[u8]) -> Result<Sheet, Refused> {
-    let mut lines = Lines { left: bytes, number: 0 };
+    let mut lines = Lines { left: bytes, last: 0 };
     lines.number("sheet=", 1, 1)?;
     let count = lines.number("names=", 1, 500)?;
     let mut names: Vec<String> = Vec::new();
@@ -99,7 +99,7 @@ fn lines(bytes: &[u8]) -> Result<Sheet, Refused> {
         rows.push(lines.row(names.len())?);
     }
     if !lines.left.is_empty() {
-        lines.number += 1;
+        lines.last += 1;
         return lines.refused(1);
     }
     Ok(Sheet { names, local, start: start == 1, sole: sole == 1, rows })
