@@ -169,42 +169,50 @@ fn wrong_modules(out: &mut String, here: &Path, built: &Path, da: &[(String, Str
         .expect("written");
 }
 
+/// The published texts by their paths, patched.
+fn published(source: &Path, patches: &[Edit]) -> Vec<(String, String)> {
+    let mut texts = Vec::new();
+    for path in PUBLISHED {
+        let from = source.join(path);
+        println!("cargo:rerun-if-changed={}", from.display());
+        let text = fs::read_to_string(&from).unwrap_or_else(|e| panic!("{}: {e} (VITAMIN_SRC names the folder)", from.display()));
+        let mine = patches.iter().filter(|patch| patch.file == path);
+        texts.push((path.to_string(), mine.fold(text, |text, patch| apply(&text, patch))));
+    }
+    texts
+}
+
+/// What stands for the modules that the publication leaves out, by their paths.
+fn absent(here: &Path) -> Vec<(String, String)> {
+    let mut texts = Vec::new();
+    for name in ABSENT {
+        let path = here.join(format!("absent/{name}.rs"));
+        println!("cargo:rerun-if-changed={}", path.display());
+        texts.push((format!("crates/hdl-ast/src/{name}.rs"), fs::read_to_string(&path).expect("an absent module")));
+    }
+    texts
+}
+
 fn main() {
     println!("cargo:rerun-if-env-changed=VITAMIN_SRC");
     let here = PathBuf::from(env::var("CARGO_MANIFEST_DIR").expect("set by cargo"));
     let source = env::var("VITAMIN_SRC").map_or_else(|_| here.join("../../shared/docs/src"), PathBuf::from);
     let built = PathBuf::from(env::var("OUT_DIR").expect("set by cargo"));
     let patches = edits_of(&here.join("patches"));
-    let mut texts: Vec<(String, String)> = Vec::new();
-    for path in PUBLISHED {
-        let from = source.join(path);
-        println!("cargo:rerun-if-changed={}", from.display());
-        let mut text =
-            fs::read_to_string(&from).unwrap_or_else(|e| panic!("{}: {e} (VITAMIN_SRC names the folder)", from.display()));
-        for patch in patches.iter().filter(|patch| patch.file == path) {
-            text = apply(&text, patch);
-        }
-        texts.push((path.to_string(), text));
-    }
     for patch in &patches {
         assert!(PUBLISHED.contains(&patch.file.as_str()), "{}: no such file: {}", patch.name, patch.file);
     }
-    for name in ABSENT {
-        let path = here.join(format!("absent/{name}.rs"));
-        println!("cargo:rerun-if-changed={}", path.display());
-        texts.push((format!("crates/hdl-ast/src/{name}.rs"), fs::read_to_string(&path).expect("an absent module")));
-    }
+    let texts = published(&source, &patches);
     let right = built.join("right");
     lay_down(&right, &texts, None);
+    lay_down(&right, &absent(&here), None);
     let mut out = String::new();
     writeln!(out, "#[allow(unused, clippy::all)] #[path = {:?}] pub mod hdl_ast;", right.join("crates/hdl-ast/src/lib.rs"))
         .expect("written");
     walk_module(&mut out, "right", &right);
     if env::var("CARGO_FEATURE_WRONG").is_ok() {
-        for path in READING {
-            println!("cargo:rerun-if-changed={path}");
-        }
-        let da: Vec<(String, String)> = texts.iter().filter(|(path, _)| path.contains("/da/")).cloned().collect();
+        READING.iter().for_each(|path| println!("cargo:rerun-if-changed={path}"));
+        let da: Vec<(String, String)> = texts.into_iter().filter(|(path, _)| path.contains("/da/")).collect();
         wrong_modules(&mut out, &here, &built, &da);
     }
     fs::write(built.join("published.rs"), out).expect("written");
