@@ -15,9 +15,8 @@ pub struct Tree {
     pub calls: HashMap<Address, u32>,
     pub tasks: HashMap<Address, u32>,
     pub loops: HashMap<Address, u32>,
-    /// How often a walk has asked what a call does, and how often it may.
+    /// How often a walk has asked what a call does.
     pub questions: Cell<u64>,
-    pub most_questions: u64,
 }
 
 /// A call's own path, by where its segments are kept. The tree keeps room for one where there is none.
@@ -37,7 +36,7 @@ pub fn loop_address(stmt: &Stmt) -> Address {
 }
 
 /// On nested && the Rust takes about 2.6 to the n, and asks what a call does at each step of it. So many questions are a second or two.
-pub const MOST_QUESTIONS: u64 = 30_000_000;
+const MOST_QUESTIONS: u64 = 30_000_000;
 
 /// What a walk that asks more often is ended with.
 struct TooLong;
@@ -47,7 +46,7 @@ impl Tree {
     pub fn effect(&self, path: &HierPath, name: &str) -> u32 {
         assert_eq!(name, self.local, "asked about a name that is not the local");
         self.questions.set(self.questions.get() + 1);
-        if self.questions.get() > self.most_questions {
+        if self.questions.get() > MOST_QUESTIONS {
             resume_unwind(Box::new(TooLong));
         }
         let address = path_address(path);

@@ -221,18 +221,8 @@ pub fn states(folder: &Path, worked: &Path, seed: u64) -> io::Result<()> {
 /// The table of known mistakes: how many sheets of `batch` and states of `ask_cases` tell each from the right one, and the first.
 pub fn notice(batch: &Path, ask_cases: &Path) -> io::Result<bool> {
     let wrongs = wrong::all();
-    let in_time = |input, folder: &Path| -> io::Result<Vec<Option<Vec<u8>>>> {
-        let list = stored(folder)?;
-        let frames: Vec<Vec<u8>> = list.iter().map(|(frame, _)| frame.clone()).collect();
-        let lines = judge::lines(input, &frames);
-        Ok(frames.into_iter().zip(lines).map(|(frame, line)| (line != TOO_LONG).then_some(frame)).collect())
-    };
-    let sheets = in_time(Input::Sheets, batch)?;
-    let states = in_time(Input::States, ask_cases)?;
-    let told_sheets: Vec<Vec<usize>> =
-        sheets.iter().map(|frame| frame.as_ref().map_or(Vec::new(), |bytes| wrong::told_by_sheet(&wrongs, bytes))).collect();
-    let told_states: Vec<Vec<usize>> =
-        states.iter().map(|frame| frame.as_ref().map_or(Vec::new(), |text| wrong::told_by_state(&wrongs, text))).collect();
+    let told_sheets = parallel::each(&stored(batch)?, |(frame, _)| wrong::told_by_sheet(&wrongs, frame));
+    let told_states = parallel::each(&stored(ask_cases)?, |(frame, _)| wrong::told_by_state(&wrongs, frame));
     println!("| mistake | what is wrong | sheets | first | states |\n|---|---|---|---|---|");
     let mut noticed = 0;
     for (i, wrong) in wrongs.iter().enumerate() {

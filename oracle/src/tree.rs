@@ -1,6 +1,6 @@
 //! The `hdl_ast` tree that a sheet's rows stand for.
 
-use crate::asking::{loop_address, path_address, Tree, MOST_QUESTIONS};
+use crate::asking::{loop_address, path_address, Tree};
 use crate::fill::{Fill, Way};
 use crate::hdl_ast::*;
 use crate::reading::kinds::KINDS;
@@ -30,7 +30,7 @@ pub fn tree(sheet: &Sheet, way: Way) -> Tree {
     let mut builder = Builder { sheet, fill, calls: HashMap::new(), tasks: HashMap::new(), loops: HashMap::new() };
     let stmt = builder.stmt(0);
     let Builder { calls, tasks, loops, .. } = builder;
-    Tree { stmt, local, calls, tasks, loops, questions: Cell::new(0), most_questions: MOST_QUESTIONS }
+    Tree { stmt, local, calls, tasks, loops, questions: Cell::new(0) }
 }
 
 impl Builder<'_> {

@@ -3,7 +3,7 @@
 use crate::answer::Answer;
 use crate::asking::Tree;
 use crate::fill::{Way, WAYS};
-use crate::reading;
+use crate::reading::{self, kinds::KINDS};
 use crate::right;
 use crate::sheet::{Refused, Sheet, State};
 use crate::states;
@@ -47,13 +47,29 @@ fn differs(right: &Result<Sheet, Refused>, wrong: &Result<Sheet, Refused>) -> bo
     }
 }
 
-/// A walk that takes long is of no use here: there are many of them, and a wrong one may take long where the right one does not.
-const FEW_QUESTIONS: u64 = 100_000;
+/// How deep && and || may nest in a sheet that is tried: a wrong walk may take long where the right one does not, and ask nothing.
+const NESTED: usize = 12;
+
+/// How deep && and || nest in a sheet.
+fn nested(sheet: &Sheet) -> usize {
+    let mut open: Vec<usize> = Vec::new();
+    let mut most = 0;
+    for (i, row) in sheet.rows.iter().enumerate() {
+        open.retain(|end| *end > i);
+        if KINDS[row.kind].word == "binary" && row.side > 0 {
+            open.push(row.end);
+            most = most.max(open.len());
+        }
+    }
+    most
+}
 
 /// The numbers of the mistakes that an input tells, given how each reading reads it.
 fn told(wrongs: &[Wrong], right: &Result<Sheet, Refused>, read: impl Fn(Load, Held) -> Result<Sheet, Refused>) -> Vec<usize> {
-    let trees =
-        right.as_ref().ok().map(|sheet| (sheet, WAYS.map(|way| Tree { most_questions: FEW_QUESTIONS, ..tree(sheet, way) })));
+    if right.as_ref().is_ok_and(|sheet| nested(sheet) > NESTED) {
+        return Vec::new();
+    }
+    let trees = right.as_ref().ok().map(|sheet| (sheet, WAYS.map(|way| tree(sheet, way))));
     let answer = trees.as_ref().and_then(|(sheet, trees)| right::asked(&trees[0], sheet.start, sheet.sole));
     let tells = |wrong: &Wrong| match wrong.kind {
         Kind::Walk(walk) => trees.as_ref().zip(answer).is_some_and(|((sheet, trees), answer)| {
