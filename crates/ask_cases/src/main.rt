@@ -18,40 +18,6 @@ fn say_answer(answer: Answer) {
     say(&bytes[0..size]);
 }
 
-// A number past the table's end is dropped.
-fn set(table: &mut [u32], i: usize, number: u32) {
-    if i < table.len() {
-        table[i] = number;
-    }
-}
-
-// Sets the numbers that a text gives.
-fn fill(table: &mut [u32], text: &[u8]) {
-    let mut at = 0;
-    let mut i = 0;
-    while at < text.len() {
-        let part = case_text::before(&text[at..], b' ');
-        let n = part.len();
-        set(table, i, case_text::field(part));
-        i += 1;
-        at = case_text::past(text, at, n);
-    }
-}
-
-fn record_of(text: &[u8]) -> Record {
-    let rows = case_text::after(text, b' ');
-    let local = case_text::after(rows, b' ');
-    let start = case_text::after(local, b' ');
-    let sole = case_text::after(start, b' ');
-    Record {
-        names: case_text::decimal(case_text::before(text, b' ')),
-        rows: case_text::decimal(case_text::before(rows, b' ')),
-        local: case_text::decimal(case_text::before(local, b' ')),
-        start: case_text::decimal(case_text::before(start, b' ')),
-        sole: case_text::decimal(sole),
-    }
-}
-
 // Asks with the first numbers of two tables, as many as they have of them.
 fn report(record: Record, rows: &[u32], row_numbers: usize, names: &[u32], name_numbers: usize) {
     let r = case_text::least(row_numbers, rows.len());
@@ -66,12 +32,12 @@ fn one_case(text: &[u8]) {
     let row_size = case_text::after(record, b'|');
     let row_text = case_text::after(row_size, b'|');
     let name_size = case_text::after(row_text, b'|');
-    fill(&mut rows, case_text::before(row_text, b'|'));
-    fill(&mut names, case_text::after(name_size, b'|'));
+    case_text::fill(&mut rows, case_text::before(row_text, b'|'));
+    case_text::fill(&mut names, case_text::after(name_size, b'|'));
     say(case_text::before(text, b'|'));
     say(b": ");
     report(
-        record_of(case_text::before(record, b'|')),
+        case_text::record_of(case_text::before(record, b'|')),
         &rows,
         case_text::decimal(case_text::before(row_size, b'|')),
         &names,

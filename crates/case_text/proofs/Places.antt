@@ -36,7 +36,7 @@ module _ (byte : ℕ) (text : List ℕ) (i : ℕ) (w : Seeking byte text i) wher
     }
 
 -- a part up to the end of a text
-part-whole : (text : List ℕ) (n : ℕ) → take (length text - n) (drop n text) ≡ drop n text
+pub part-whole : (text : List ℕ) (n : ℕ) → take (length text - n) (drop n text) ≡ drop n text
 part-whole text n = take-all (length text - n) (drop n text) (omega (arith, length-drop n text))
 
 -- the parts before and after a place that `find` tells

@@ -1,15 +1,16 @@
--- Kinds and rows as a case's text gives them.
+-- A record, kinds and rows as a case's text gives them.
 use Prim.Native.Nat.{ℕ, _+_, _*_, _/_, _%_, _≤_, _<_}
 use mathlib.Core.Path.{_≡_, sym, ap, _∙_}
 use mathlib.Core.List.{List}
-use lib.ListN.{length, set}
+use lib.ListN.{length, take, set}
 use borrow.Author.Tests.{le-leb, lt-leb, eq-eqb, ne-eqb}
 use Rattle.kinds.specs.declared.Found.{Found}
 use Rattle.kinds.specs.declared.Found.the-variants.{Is, Unknown}
 use Rattle.kinds.specs.Words.{kindOf}
-use Rattle.case_text.specs.Texts.{spelled}
+use Rattle.sheet_record.specs.declared.Record.{Record}
+use Rattle.case_text.specs.Texts.{firstPlace, spelled, numberBefore, textAfter}
 use Rattle.kinds.specs.Named.{kindNumber}
-use Rattle.case_text.specs.RowTexts.{kindField, setRow}
+use Rattle.case_text.specs.RowTexts.{recordText, kindField, setRow}
 
 pub is-kind : (f : Found) (word : List ℕ) (k : ℕ) → f ≡ kindOf word → f ≡ Is k → k ≡ kindNumber (kindOf word)
 unfolding kindNumber
@@ -38,4 +39,15 @@ module _ (rows : List ℕ) (i kind side end : ℕ) where
   unfolding setRow
   row-set h = rw (lt-leb (length rows / 5) i h)
 
-pub ruleset answers = (is-kind, no-kind, by-number, by-word, row-past, row-set)
+pub number-told : (byte : ℕ) (text part : List ℕ) (r : ℕ) → part ≡ take (firstPlace byte text) text → r ≡ spelled 0 part → r ≡ numberBefore byte text
+number-told byte text part r p e = e ∙ ap (spelled 0) p
+
+-- the texts after each number, and the numbers
+module _ (text rows local start sole : List ℕ) (r : Record) where
+  pub record-told : rows ≡ textAfter 32 text → local ≡ textAfter 32 rows → start ≡ textAfter 32 local → sole ≡ textAfter 32 start
+      → r .names ≡ numberBefore 32 text → r .rows ≡ numberBefore 32 rows → r .local ≡ numberBefore 32 local → r .start ≡ numberBefore 32 start → r .sole ≡ spelled 0 sole
+      → r ≡ recordText text
+  unfolding recordText
+  record-told a b c d n o p q s = rw (n, o, p, q, s, d, c, b, a)
+
+pub ruleset answers = (number-told, record-told, is-kind, no-kind, by-number, by-word, row-past, row-set)

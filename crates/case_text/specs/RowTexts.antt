@@ -1,4 +1,4 @@
--- A table's rows as a case's text gives them. Definitions only.
+-- A record and a table's rows as a case's text gives them. Definitions only.
 use Prim.Native.Nat.{ℕ, _+_, _*_, _/_, _%_}
 use mathlib.Core.Bool.{cond}
 use mathlib.Core.List.{List}
@@ -6,7 +6,18 @@ use lib.Dec.{eqb, leb}
 use lib.ListN.{length, set}
 use Rattle.kinds.specs.Words.{kindOf}
 use Rattle.kinds.specs.Named.{kindNumber}
-use Rattle.case_text.specs.Texts.{spelled}
+use Rattle.sheet_record.specs.declared.Record.{Record}
+use Rattle.case_text.specs.Texts.{spelled, numberBefore, textAfter}
+
+-- the record of five numbers, parted by spaces
+unfoldable pub recordText : List ℕ → Record
+recordText text = record {
+  names = numberBefore 32 text;
+  rows = numberBefore 32 (textAfter 32 text);
+  local = numberBefore 32 (textAfter 32 (textAfter 32 text));
+  start = numberBefore 32 (textAfter 32 (textAfter 32 (textAfter 32 text)));
+  sole = spelled 0 (textAfter 32 (textAfter 32 (textAfter 32 (textAfter 32 text))));
+}
 
 -- the kind of a word or, where it is no kind's, of a number
 unfoldable pub kindField : List ℕ → ℕ

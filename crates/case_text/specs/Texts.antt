@@ -3,7 +3,7 @@ use Prim.Native.Nat.{ℕ, zero, suc, _+_, _-_, _*_, _/_, _%_}
 use mathlib.Core.Bool.{cond}
 use mathlib.Core.List.{List, [], _∷_}
 use lib.Dec.{eqb, leb, ltb}
-use lib.ListN.{length, set}
+use lib.ListN.{length, take, drop, set}
 
 -- the place of the first such byte, or the length where there is none
 unfoldable pub firstPlace : ℕ → List ℕ → ℕ
@@ -22,6 +22,28 @@ pastPlace size at n = cond (ltb n (size - at)) (at + n + 1) size
 unfoldable pub spelled : ℕ → List ℕ → ℕ
 spelled v [] = v
 spelled v (b ∷ t) = cond (ltb 1844674407370955160 v) 18446744073709551615 (spelled (v * 10 + b % 16) t)
+
+-- the number that a text spells up to such a byte, and the text after it
+abbrev pub numberBefore : ℕ → List ℕ → ℕ
+numberBefore byte text = spelled 0 (take (firstPlace byte text) text)
+
+abbrev pub textAfter : ℕ → List ℕ → List ℕ
+textAfter byte text = drop (firstPlace byte text + 1) text
+
+-- parts, the first of them with one more byte before it
+unfoldable pub longer : ℕ → List (List ℕ) → List (List ℕ)
+longer b [] = (b ∷ []) ∷ []
+longer b (part ∷ rest) = (b ∷ part) ∷ rest
+
+-- a text taken apart at each such byte, with no part after one at its end
+unfoldable pub parts : ℕ → List ℕ → List (List ℕ)
+parts byte [] = []
+parts byte (b ∷ t) = cond (eqb b byte) ([] ∷ parts byte t) (longer b (parts byte t))
+
+-- a table with the numbers that parts spell from a place on, those past its end dropped
+unfoldable pub setNumbers : List ℕ → ℕ → List (List ℕ) → List ℕ
+setNumbers table i [] = table
+setNumbers table i (part ∷ rest) = setNumbers (set table i (spelled 0 part % 4294967296)) (i + 1) rest
 
 -- the place after a byte that is put at a place of so many, or the same place where that is past the end
 unfoldable pub putPlace : ℕ → ℕ → ℕ

@@ -1,12 +1,13 @@
-// What the programs that run cases share: their text taken apart, text and digests put together, and rows of tables set.
+// What the programs that run cases share: their text taken apart, text and digests put together, records and tables set.
 use kinds::Found;
+use sheet_record::Record;
 ghost use mathlib.Core.Path.{_≡_};
 ghost use Prim.Native.Nat.{_+_, _%_, _≤_, _<_};
 ghost use lib.ListN.{length, getD, take, drop, set};
 ghost use Rattle.kinds.specs.Words.{kindOf};
 ghost use Rattle.kinds.specs.Named.{kindNumber};
-ghost use Rattle.case_text.specs.RowTexts.{kindField, setRow};
-ghost use Rattle.case_text.specs.Texts.{firstPlace, smaller, pastPlace, spelled, putPlace, putAll, allPlace, figureOf, fourFigures, hexDigit, hexByte, digestStep, digestOf};
+ghost use Rattle.case_text.specs.RowTexts.{recordText, kindField, setRow};
+ghost use Rattle.case_text.specs.Texts.{firstPlace, smaller, pastPlace, spelled, numberBefore, parts, setNumbers, putPlace, putAll, allPlace, figureOf, fourFigures, hexDigit, hexByte, digestStep, digestOf};
 
 // The place of the first such byte, or the length.
 pub fn find(text: &[u8], byte: u8) -> usize
@@ -189,6 +190,54 @@ pub fn field(text: &[u8]) -> u32
     ensures { λ r. ⌜ r ≡ spelled 0 (now (text .entry)) % 4294967296 ⌝ }
 {
     (decimal(text) % 4294967296) as u32
+}
+
+fn number_before(text: &[u8], byte: u8) -> usize
+    ensures { λ r. ⌜ r ≡ numberBefore byte (now (text .entry)) ⌝ }
+{
+    decimal(before(text, byte))
+}
+
+// The record of five numbers, parted by spaces.
+pub fn record_of(text: &[u8]) -> Record
+    ensures { λ r. ⌜ r ≡ recordText (now (text .entry)) ⌝ }
+{
+    let rows = after(text, b' ');
+    let local = after(rows, b' ');
+    let start = after(local, b' ');
+    let sole = after(start, b' ');
+    Record {
+        names: number_before(text, b' '),
+        rows: number_before(rows, b' '),
+        local: number_before(local, b' '),
+        start: number_before(start, b' '),
+        sole: decimal(sole),
+    }
+}
+
+fn set_number(table: &mut [u32], i: usize, number: u32)
+    ensures { λ r. ⌜ now (table .exit) ≡ set (now (table .entry)) i number ⌝ }
+{
+    if i < table.len() {
+        table[i] = number;
+    }
+}
+
+// Sets the numbers that a text gives, parted by spaces, and answers how many they are.
+pub fn fill(table: &mut [u32], text: &[u8]) -> usize
+    ensures { λ r. ⌜ r ≡ length (parts 32 (now (text .entry))) ⌝ }
+    ensures { λ r. ⌜ now (table .exit) ≡ setNumbers (now (table .entry)) 0 (parts 32 (now (text .entry))) ⌝ }
+{
+    let mut at = 0;
+    let mut i = 0;
+    while at < text.len() {
+        let part = before(&text[at..], b' ');
+        let n = part.len();
+        set_number(table, i, field(part));
+        i += 1;
+        at = past(text, at, n);
+    }
+    i
 }
 
 // The kind of a row by its word or, where it is none, by its number.

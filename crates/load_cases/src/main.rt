@@ -200,39 +200,6 @@ fn load_case(text: &[u8]) {
     load_into(&built[0..end], &mut rows[0..r], &mut names[0..n]);
 }
 
-fn record_of(text: &[u8]) -> Record {
-    let a = case_text::after(text, b' ');
-    let b = case_text::after(a, b' ');
-    let c = case_text::after(b, b' ');
-    Record {
-        names: case_text::decimal(case_text::before(text, b' ')),
-        rows: case_text::decimal(case_text::before(a, b' ')),
-        local: case_text::decimal(case_text::before(b, b' ')),
-        start: case_text::decimal(case_text::before(c, b' ')),
-        sole: case_text::decimal(case_text::after(c, b' ')),
-    }
-}
-
-fn set(numbers: &mut [u32], i: usize, value: usize) {
-    if i < numbers.len() {
-        numbers[i] = (value % 4294967296) as u32;
-    }
-}
-
-// Sets the numbers that a text gives, and answers how many they are.
-fn fill(numbers: &mut [u32], text: &[u8]) -> usize {
-    let mut at = 0;
-    let mut i = 0;
-    while at < text.len() {
-        let part = case_text::before(&text[at..], b' ');
-        let n = part.len();
-        set(numbers, i, case_text::decimal(part));
-        i += 1;
-        at = case_text::past(text, at, n);
-    }
-    i
-}
-
 fn name_of(bytes: &[u8], record: Record, names: &[u32], i: usize) {
     let place = names::name_place(bytes, record, names, i);
     match place {
@@ -259,13 +226,13 @@ fn name_case(text: &[u8]) {
     let numbers = case_text::after(text, b'|');
     let asked = case_text::after(numbers, b'|');
     let table_end = case_text::least(build(bytes, case_text::before(numbers, b'|')), bytes.len());
-    let n = case_text::least(fill(names, &bytes[0..table_end]), names.len());
+    let n = case_text::least(case_text::fill(names, &bytes[0..table_end]), names.len());
     let end = case_text::least(build(bytes, case_text::after(asked, b'|')), bytes.len());
     let built = &bytes[..];
     let lent = &names[..];
     name_of(
         &built[0..end],
-        record_of(case_text::before(text, b'|')),
+        case_text::record_of(case_text::before(text, b'|')),
         &lent[0..n],
         case_text::decimal(case_text::before(asked, b'|')),
     );

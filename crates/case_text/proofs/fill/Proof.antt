@@ -1,15 +1,15 @@
 use borrow.Author.Needs.{needs}
-use Prim.Native.Nat.{_-_, _≤_}
-use mathlib.Core.Path.{_≡_}
+use Prim.Native.Nat.{_-_}
 use lib.ListN.{length}
-use Rattle.load_cases.proofs.fill.Statement.{statement}
-use Rattle.load_cases.proofs.fill.Tie as tie
+use Rattle.case_text.proofs.Fills.{Filling, answers}
+use Rattle.case_text.proofs.fill.Statement.{statement}
+use Rattle.case_text.proofs.fill.Tie as tie
 
 abbrev Inv-loop : tie.InvT-loop
-Inv-loop numbers₀ text at₀ i₀ numbers at i = (at ≤ length text) × ((i ≤ at) × (length numbers ≡ length numbers₀))
+Inv-loop table₀ text at₀ i₀ table at i = Filling table₀ text table at i
 
 abbrev μ-loop : tie.MeasureT-loop
-μ-loop numbers₀ text at₀ i₀ numbers at i = length text - at
+μ-loop table₀ text at₀ i₀ table at i = length text - at
 
 pub fill-spec : {M : Type 1} → statement M
 fill-spec =
@@ -17,7 +17,7 @@ fill-spec =
     (tie.spec
     Inv-loop
     μ-loop
-    (λ c. search needs)
+    (λ c. search answers)
     (λ c. search needs)
     (λ c. search needs)
     (λ c. search needs)
@@ -27,6 +27,6 @@ fill-spec =
     (λ c. search needs)
     (λ c κs. search needs)
     (λ c. search needs)
+    (λ c. search answers)
     (λ c. search needs)
-    (λ c. search needs)
-    (λ c. search needs))
+    (λ c. (search answers, search answers)))
