@@ -1,34 +1,9 @@
-//! The published Rust as the judge of the checker's answers. See README.md beside this crate.
+//! The oracle's commands. See README.md beside this crate.
 
-mod answer;
-mod asking;
-mod compare;
-mod damage_states;
-mod fill;
-mod frames;
-mod generate;
-mod judge;
+use oracle::judge::{self, Input};
 #[cfg(feature = "wrong")]
-mod list;
-mod parallel;
-mod random;
-mod reading;
-mod sheet;
-mod states;
-mod tree;
-#[cfg(feature = "wrong")]
-mod wrong;
-
-include!(concat!(env!("OUT_DIR"), "/published.rs"));
-
-/// Not published, and never reached by `da_stmt`.
-pub mod struct_arm {
-    pub fn arm_reads_ident(_: &crate::hdl_ast::Expr, _: &str) -> bool {
-        unreachable!("struct_arm is not published")
-    }
-}
-
-use judge::Input;
+use oracle::list;
+use oracle::{compare, generate};
 use std::io;
 
 fn number<T: std::str::FromStr>(word: &str) -> T {

@@ -18,6 +18,13 @@ AcceptedAnswer Jumps = Unit
 AcceptedAnswer (GivesUp stop) = ⊥
 AcceptedAnswer (Refused refusal place) = ⊥
 
+-- the same as a test
+abbrev pub isAccepted : Answer → Bool
+isAccepted (Falls written) = true
+isAccepted Jumps = true
+isAccepted (GivesUp stop) = false
+isAccepted (Refused refusal place) = false
+
 -- "answer is falls, jumps, giveup or refused": the number of an answer is its place in this list
 abbrev pub answerWords : List (List ℕ)
 answerWords = bytes "falls" ∷ bytes "jumps" ∷ bytes "giveup" ∷ bytes "refused" ∷ []

@@ -5,7 +5,7 @@ ghost use mathlib.Core.Path.{_≡_};
 ghost use Prim.Native.Nat.{_+_, _≤_};
 ghost use lib.ListN.{length, take};
 ghost use Rattle.writing.specs.Putting.{PutAt};
-ghost use Rattle.answers.specs.Answers.{bitOf, numbersOf, answerText, filledText};
+ghost use Rattle.answers.specs.Answers.{isAccepted, bitOf, numbersOf, answerText, filledText};
 ghost use Rattle.answers.specs.Steps.{wordText, outcomeText, stopText};
 
 // One of: falls with written or not; jumps; a give-up with reason, lo and hi; a refusal with its place.
@@ -29,6 +29,18 @@ pub struct Numbers {
 pub struct Text {
     pub bytes: [u8; 128],
     pub size: usize,
+}
+
+// Whether an answer is accepted.
+pub fn accepted(answer: Answer) -> bool
+    ensures { λ r. ⌜ r ≡ isAccepted answer ⌝ }
+{
+    match answer {
+        Answer::Falls(written) => true,
+        Answer::Jumps => true,
+        Answer::GivesUp(stop) => false,
+        Answer::Refused(refusal, place) => false,
+    }
 }
 
 fn bit(written: bool) -> usize

@@ -1,0 +1,92 @@
+-- What each call tells C, from what the call below it answered.
+use Prim.Native.Nat.{ℕ}
+use mathlib.Core.Path.{_≡_, refl, sym, ap, subst, _∙_}
+use mathlib.Core.Bool.{Bool, true, true≢false}
+use mathlib.Core.List.{List, [], _∷_}
+use lib.ListN.{getD}
+use borrow.Author.Needs.{needs}
+use Rattle.sheet_record.specs.declared.Record.{Record}
+use Rattle.sheet.specs.declared.Refusal.{Refusal}
+use Rattle.sheet.specs.declared.Loaded.{Loaded}
+use Rattle.sheet.specs.Load.{refusalNumber, refusalOf, placeOf, recordOf}
+use Rattle.sheet.specs.Meaning.{LoadMeans}
+use Rattle.answers.specs.declared.Answer.{Answer}
+use Rattle.answers.specs.declared.Answer.the-variants.{Falls, Jumps, GivesUp, Refused}
+use Rattle.answers.specs.declared.Numbers.{Numbers}
+use Rattle.answers.specs.Answers.{AcceptedAnswer, isAccepted, numbersOf}
+use Rattle.ask.specs.Ask.{askOf}
+use Rattle.ask.specs.Meaning.{AskMeans}
+use Rattle.verdict.specs.Meaning.{VerdictMeans}
+use Rattle.names.specs.declared.Named.{Named}
+use Rattle.names.specs.declared.Named.the-variants as N
+use Rattle.names.specs.NameText.{namePlace}
+use Rattle.capi.specs.Numbers.{answerNumbers, isLoaded, loadedNumbers, refusalNumbers, recordFrom, isFound, placeNumbers}
+use Rattle.capi.specs.Meaning.{TrueMeans, AskedTrueMeans}
+
+pub answer-put : (a : Answer) (n : Numbers) → n ≡ numbersOf a → n .answer ∷ n .state ∷ n .reason ∷ n .lo ∷ n .hi ∷ [] ≡ answerNumbers a
+answer-put a n e = rw e
+
+pub record-put : (l : Loaded) (r : Record) → r ≡ recordOf l → r .names ∷ r .rows ∷ r .local ∷ r .start ∷ r .sole ∷ [] ≡ loadedNumbers l
+record-put l r e = rw e
+
+pub refusal-put : (l : Loaded) (n w p : ℕ) → w ≡ n → n ≡ refusalOf l → p ≡ placeOf l → w ∷ p ∷ [] ≡ refusalNumbers l
+refusal-put l n w p e f g = rw (e, f, g)
+
+pub record-read : (ns : List ℕ) → record { names = getD ns 0 0; rows = getD ns 1 0; local = getD ns 2 0; start = getD ns 3 0; sole = getD ns 4 0 } ≡ recordFrom ns
+unfolding recordFrom
+record-read ns = refl
+
+pub place-put : (n : Named) (offset size : ℕ) → n ≡ N.At offset size → offset ∷ size ∷ 0 ∷ [] ≡ placeNumbers n
+place-put n offset size e = rw e
+
+pub no-place-put : (n : Named) (refusal : Refusal) (number w : ℕ) → n ≡ N.Refused refusal → w ≡ number → number ≡ refusalNumber refusal → 0 ∷ 0 ∷ w ∷ [] ≡ placeNumbers n
+no-place-put n refusal number w e f g = rw (e, f, g)
+
+-- an answer that is told to be accepted is
+pub accepted-is : (a : Answer) → isAccepted a ≡ true → AcceptedAnswer a
+accepted-is (Falls written) e = tt
+accepted-is Jumps e = tt
+accepted-is (GivesUp stop) e = true≢false (sym e)
+accepted-is (Refused refusal place) e = true≢false (sym e)
+
+-- a record from C is the one that its numbers are
+pub asked-of : (r q : Record) (rows names : List ℕ) (a : Answer) → q ≡ r → a ≡ askOf q rows names → a ≡ askOf r rows names
+asked-of r q rows names a e h = h ∙ ap (λ (p : Record). askOf p rows names) e
+
+pub named-of : (s : List ℕ) (r q : Record) (names : List ℕ) (number : ℕ) (n : Named) → q ≡ r → n ≡ namePlace s q names number → n ≡ namePlace s r names number
+named-of s r q names number n e h = h ∙ ap (λ (p : Record). namePlace s p names number) e
+
+module _ (a b : Answer) (e : a ≡ b) where
+  pub accepted-told : (r : Bool) → r ≡ isAccepted a → r ≡ isAccepted b
+  accepted-told r h = rw (h, e)
+
+  pub numbers-told : (ns : List ℕ) → ns ≡ answerNumbers a → ns ≡ answerNumbers b
+  numbers-told ns h = rw (h, e)
+
+module _ (l k : Loaded) (e : l ≡ k) where
+  pub loaded-told : (r : Bool) → r ≡ isLoaded l → r ≡ isLoaded k
+  loaded-told r h = rw (h, e)
+
+  pub record-told : (ns : List ℕ) → ns ≡ loadedNumbers l → ns ≡ loadedNumbers k
+  record-told ns h = rw (h, e)
+
+  pub refusal-told : (ns : List ℕ) → ns ≡ refusalNumbers l → ns ≡ refusalNumbers k
+  refusal-told ns h = rw (h, e)
+
+module _ (n m : Named) (e : n ≡ m) where
+  pub found-told : (r : Bool) → r ≡ isFound n → r ≡ isFound m
+  found-told r h = rw (h, e)
+
+  pub place-told : (ns : List ℕ) → ns ≡ placeNumbers n → ns ≡ placeNumbers m
+  place-told ns h = rw (h, e)
+
+pub true-means : (s : List ℕ) (a : Answer) (r : Bool) → VerdictMeans s a → r ≡ isAccepted a → TrueMeans s r
+true-means s a r means h = record { safe = λ t. means .safe (accepted-is a (sym h ∙ t)) }
+
+pub asked-true-means : (r q : Record) (rows names : List ℕ) (a : Answer) (b : Bool) → q ≡ r → AskMeans q rows names a → b ≡ isAccepted a → AskedTrueMeans r rows names b
+asked-true-means r q rows names a b e means h = subst (λ (p : Record). AskedTrueMeans p rows names b) e (record { safe = λ t. means .safe (accepted-is a (sym h ∙ t)) })
+
+pub load-told : (l k : Loaded) (rows names : List ℕ) → l ≡ k → LoadMeans l rows names → LoadMeans k rows names
+load-told l k rows names e = subst (λ (a : Loaded). LoadMeans a rows names) e
+
+pub ruleset answers = (needs, answer-put, record-put, refusal-put, record-read, place-put, no-place-put, asked-of, named-of, accepted-told, numbers-told, loaded-told, record-told, refusal-told, found-told, place-told, load-told, true-means, asked-true-means)
