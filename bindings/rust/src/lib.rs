@@ -31,11 +31,17 @@ pub struct Refusal {
 #[derive(Clone, Copy, PartialEq, Eq, Debug)]
 pub enum Answer {
     /// Accepted; written says whether the local is written wherever the statement ends.
-    Falls { written: bool },
+    Falls {
+        written: bool,
+    },
     /// Accepted, and no path comes to the statement's end.
     Jumps,
     /// Not accepted, with the span that the reason points at.
-    GivesUp { reason: usize, lo: usize, hi: usize },
+    GivesUp {
+        reason: usize,
+        lo: usize,
+        hi: usize,
+    },
     Refused(Refusal),
 }
 
@@ -145,9 +151,8 @@ pub fn verdict(sheet: &[u8], rows: &mut [u32], names: &mut [u32]) -> Answer {
     let mut numbers = calls::Numbers::default();
     let (rows_at, names_at) = (rows.as_mut_ptr(), names.as_mut_ptr());
     // SAFETY: as in `load`.
-    let accepted = unsafe {
-        calls::da_verdict(sheet.as_ptr(), sheet.len(), rows_at, rows.len(), names_at, names.len(), &mut numbers)
-    };
+    let accepted =
+        unsafe { calls::da_verdict(sheet.as_ptr(), sheet.len(), rows_at, rows.len(), names_at, names.len(), &mut numbers) };
     answer_of(accepted, &numbers)
 }
 
@@ -155,9 +160,7 @@ pub fn verdict(sheet: &[u8], rows: &mut [u32], names: &mut [u32]) -> Answer {
 pub fn name<'a>(sheet: &'a [u8], record: &Record, names: &[u32], number: usize) -> Result<&'a [u8], Refusal> {
     let mut place = calls::Place::default();
     // SAFETY: as in `load`.
-    let found = unsafe {
-        calls::da_name(sheet.as_ptr(), sheet.len(), record, names.as_ptr(), names.len(), number, &mut place)
-    };
+    let found = unsafe { calls::da_name(sheet.as_ptr(), sheet.len(), record, names.as_ptr(), names.len(), number, &mut place) };
     if found {
         Ok(&sheet[place.offset..place.offset + place.length])
     } else {
