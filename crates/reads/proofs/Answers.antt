@@ -23,7 +23,7 @@ use Rattle.reads.specs.declared.Iff.the-variants.{Skipped}
 use Rattle.reads.specs.declared.Mention.{Mention}
 use Rattle.reads.specs.declared.Mention.the-variants.{At, Nowhere}
 use Rattle.reads.specs.PathRows.{isNamed, begins, count, segments}
-use Rattle.reads.specs.Mentions.{roleOf, mentionsBy, hasIff, mentionsAt, skipsIff, mentionIn, MentionTold}
+use Rattle.reads.specs.Mentions.{roleOf, mentionsBy, hasIff, mentionsAt, skipsIff, mentionIn, MentionTold, AfterPlain}
 use Rattle.reads.specs.NoRef.{exprNoRef, two-segments, not-vetted, vetting, vetted, stmtNoRef}
 use Rattle.reads.proofs.Scan.{orElse, mention-none, mention-here, mention-row, mention-event, found-refers, nowhere-refers, mention-told}
 
@@ -66,6 +66,9 @@ path-mentions rows i found r x to e p q t v = role-mentions rows i found ByPath 
 pub ruleset role-answers = (role-mentions, role-skips, path-mentions)
 
 -- first_mention: what its loop keeps is that the answer is that of the rows from i on
+pub scan-start : (iff : Iff) (x : ℕ) (rows : List ℕ) (from to i : ℕ) → AfterPlain rows from to i → mentionIn iff x rows from to ≡ mentionIn iff x rows i to
+scan-start iff x rows from to i w = w .same iff x
+
 module _ (iff : Iff) (x : ℕ) (rows : List ℕ) (from to i : ℕ) (v : mentionIn iff x rows from to ≡ mentionIn iff x rows i to) where
   pub scan-done : to ≤ i → Nowhere ≡ mentionIn iff x rows from to
   scan-done h = sym (v ∙ mention-none iff x rows i to h)
@@ -75,8 +78,8 @@ module _ (iff : Iff) (x : ℕ) (rows : List ℕ) (from to i : ℕ) (v : mentionI
     row-hit y = sym (v ∙ mention-here iff x g h (sym be ∙ y))
 
     module _ (p : Bool) (n : b ≡ false) (pe : p ≡ skipsIff iff (exprClass (kindAt rows i))) where
-      pub row-miss : (j : ℕ) → p ≡ false → j ≡ i + 1 → mentionIn iff x rows from to ≡ mentionIn iff x rows j to
-      row-miss j y e = v ∙ rw e (mention-row iff x g h (sym be ∙ n) (sym pe ∙ y))
+      pub row-miss : (j : ℕ) → p ≡ false → AfterPlain rows (i + 1) to j → mentionIn iff x rows from to ≡ mentionIn iff x rows j to
+      row-miss j y w = v ∙ mention-row iff x g h (sym be ∙ n) (sym pe ∙ y) ∙ w .same iff x
 
       module _ (e a : ℕ) (m : Mention) (y : p ≡ true) (t : RowEnd rows i to e) (u : NextRow rows (i + 1) e a) (me : m ≡ mentionIn iff x rows (i + 1) a) where
         event-step : mentionIn iff x rows from to ≡ orElse m (mentionIn iff x rows e to)
@@ -85,8 +88,8 @@ module _ (iff : Iff) (x : ℕ) (rows : List ℕ) (from to i : ℕ) (v : mentionI
         pub event-hit : (r : ℕ) → m ≡ At r → m ≡ mentionIn iff x rows from to
         event-hit r z = sym (event-step ∙ rw z)
 
-        pub event-miss : m ≡ Nowhere → mentionIn iff x rows from to ≡ mentionIn iff x rows e to
-        event-miss z = event-step ∙ rw z
+        pub event-miss : (j : ℕ) → m ≡ Nowhere → AfterPlain rows e to j → mentionIn iff x rows from to ≡ mentionIn iff x rows j to
+        event-miss j z w = event-step ∙ rw z (w .same iff x)
 
 -- both clauses of its contract
 pub scan-told : {iff : Iff} {x : ℕ} {rows : List ℕ} {from to : ℕ} {m : Mention} → Nested rows from to → m ≡ mentionIn iff x rows from to → (m ≡ mentionIn iff x rows from to) × MentionTold iff x rows from to m

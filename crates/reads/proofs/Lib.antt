@@ -1,3 +1,4 @@
+pub mod Plain
 pub mod Trees
 pub mod Scan
 pub mod Answers

@@ -4,7 +4,7 @@ use Prim.Native.Nat.{ℕ, _+_, _-_, _≤_, _<_}
 use mathlib.Core.Path.{_≡_}
 use mathlib.Core.Bool.{Bool, true, false, cond, _||_}
 use mathlib.Core.List.{List, [], _∷_, _++_}
-use Rattle.table.specs.Rows.{kindAt, endAt, Forest, tree}
+use Rattle.table.specs.Rows.{kindAt, endAt, Forest, tree, Nested}
 use Rattle.table.specs.Fold.{Alg, fold, nth, tail}
 use Rattle.kinds.specs.declared.ExprClass.{ExprClass}
 use Rattle.kinds.specs.declared.ExprClass.the-variants.{Ident, Call, Lident, Opaque, Event, Unary, Binary, Ternary, Paren, Other}
@@ -101,6 +101,13 @@ firstTrue i (b ∷ bs) = cond b (At i) (firstTrue (i + 1) bs)
 -- the first row, in row order, that is a mention and is looked at, of the rows from `from` up to `to` (document 02, Paper 4)
 unfoldable pub mentionIn : Iff → ℕ → List ℕ → ℕ → ℕ → Mention
 mentionIn iff x rows from to = firstTrue from (seen iff x (tree rows from to))
+
+-- what `after_plain` tells: of the rows from i up to r none is a mention, or an event, so the first mention is the same from r on
+pub record AfterPlain (rows : List ℕ) (i to r : ℕ) : Type 0 where
+  pub after : i ≤ r
+  pub within : r ≤ to
+  pub nested : Nested rows r to
+  pub same : (iff : Iff) (x : ℕ) → mentionIn iff x rows i to ≡ mentionIn iff x rows r to
 
 -- row r, of the rows from `from` up to `to`, is itself a mention
 pub record MentionAt (x : ℕ) (rows : List ℕ) (from to r : ℕ) : Type 0 where

@@ -2,12 +2,14 @@
 use kinds::ExprClass;
 use kinds::StmtClass;
 ghost use mathlib.Core.Path.{_≡_};
+ghost use mathlib.Core.Bool.{true};
 ghost use Prim.Native.Nat.{_+_, _*_, _<_};
 ghost use lib.ListN.{length};
 ghost use Rattle.kinds.specs.Named.{exprClass};
 ghost use Rattle.table.specs.Rows.{Nested, tree, kindAt};
 ghost use Rattle.reads.specs.PathRows.{begins, segments as segmentsOf};
-ghost use Rattle.reads.specs.Mentions.{roleOf, mentionsAt, skipsIff, mentionIn, MentionTold};
+ghost use Rattle.reads.specs.declared.Role.the-variants.{ByContent};
+ghost use Rattle.reads.specs.Mentions.{roleOf, mentionsAt, skipsIff, mentionIn, MentionTold, AfterPlain};
 ghost use Rattle.reads.specs.NoRef.{exprNoRef, lvalueNoRef, sensitivityNoRef, intraEventNoRef, stmtNoRef, vetted, two-segments};
 
 // Whether the iff of an event is looked at.
@@ -102,6 +104,32 @@ fn skips_iff(rows: &[u32], iff: Iff, i: usize) -> bool
     }
 }
 
+// Whether a kind is none of those that a row refers by: expressions and targets have numbers from 40 on, and of the kinds before
+// them only an event is looked at for itself. Most rows are such, and this is all that is asked of them.
+fn is_plain(kind: usize) -> bool
+    ensures { λ r. ⌜ (r ≡ true → roleOf (exprClass kind) ≡ ByContent) ⌝ }
+{
+    if kind == 7 {
+        return false;
+    }
+    kind < 41
+}
+
+// The first row from i on, up to `to`, that may refer by itself.
+fn after_plain(rows: &[u32], i: usize, to: usize) -> usize
+    requires { ⌜ Nested (now rows) i to ⌝ }
+    ensures { λ r. ⌜ AfterPlain (now (rows .entry)) i to r ⌝ }
+{
+    let mut next = i;
+    while next < to {
+        if !is_plain(table::kind_at(rows, next)) {
+            return next;
+        }
+        next += 1;
+    }
+    next
+}
+
 // The first mention among the rows from `from` up to `to`, in row order. At an event whose iff is skipped the pass looks at
 // the event's expression and goes on after the event.
 pub fn first_mention(rows: &[u32], iff: Iff, local: usize, from: usize, to: usize) -> Mention
@@ -109,7 +137,7 @@ pub fn first_mention(rows: &[u32], iff: Iff, local: usize, from: usize, to: usiz
     ensures { λ r. ⌜ r ≡ mentionIn iff local (now (rows .entry)) from to ⌝ }
     ensures means { λ r. ⌜ MentionTold iff local (now (rows .entry)) from to r ⌝ }
 {
-    let mut i = from;
+    let mut i = after_plain(rows, from, to);
     while i < to {
         if is_mention(rows, local, i, to) {
             return Mention::At(i);
@@ -121,9 +149,9 @@ pub fn first_mention(rows: &[u32], iff: Iff, local: usize, from: usize, to: usiz
             let Mention::Nowhere = found else {
                 return found;
             };
-            i = end;
+            i = after_plain(rows, end, to);
         } else {
-            i += 1;
+            i = after_plain(rows, i + 1, to);
         }
     }
     Mention::Nowhere

@@ -1,16 +1,17 @@
 use borrow.Author.Needs.{needs}
-use mathlib.Core.Path.{_≡_, refl}
+use mathlib.Core.Path.{_≡_}
 use native.Mathlib.Omega.{arith}
 use Rattle.table.specs.Rows.{Nested}
 use Rattle.reads.specs.Mentions.{mentionIn}
 use Rattle.reads.proofs.Scan.{next-nested}
-use Rattle.reads.proofs.Answers.{scan-answers, row-miss, event-miss, scan-told}
+use Rattle.reads.proofs.Answers.{scan-start, scan-answers, row-miss, event-miss, scan-told}
 use Prim.Native.Nat.{ℕ, _<_, _≤_, _-_}
 use borrow.Fn.Kinds.{In}
 use borrow.Fn.PlainCycle.{Measures, is, falls, and}
 use Rattle.reads.proofs.first_mention.Reads as first-mention
 use Rattle.reads.proofs.first_mention.Kinds as first-mention-kinds
 use Rattle.reads.proofs.+first_mention.Lts-first_mention as first-mention-lts
+use Rattle.reads.proofs.after_plain.Reads as after-plain-reads
 use Rattle.reads.proofs.is_mention.Reads as is-mention-reads
 use Rattle.reads.proofs.skips_iff.Reads as skips-iff-reads
 use Rattle.table.proofs.next_at.Reads as next-at-reads
@@ -40,7 +41,7 @@ abbrev first-mention-μ-loop : first-mention-lts.MeasureT-loop
 first-mention-μ-loop rows iff local from to i₀ i = to - i
 
 abbrev calls : ℕ → first-mention-lts.Claims
-calls t = (is-mention-reads.Asked, is-mention-reads.Learnt, skips-iff-reads.Asked, skips-iff-reads.Learnt, row-end-reads.Asked, row-end-reads.Learnt, next-at-reads.Asked, next-at-reads.Learnt, first-mention-below t, first-mention.Post)
+calls t = (after-plain-reads.Asked, after-plain-reads.Learnt, is-mention-reads.Asked, is-mention-reads.Learnt, skips-iff-reads.Asked, skips-iff-reads.Learnt, row-end-reads.Asked, row-end-reads.Learnt, next-at-reads.Asked, next-at-reads.Learnt, first-mention-below t, first-mention.Post)
 
 pub +first-mention-spec : {M : Type 1} → statement M
 +first-mention-spec = close μ-first-mention λ t. first-mention-lts.spec (calls t)
@@ -48,7 +49,8 @@ pub +first-mention-spec : {M : Type 1} → statement M
     first-mention.Post
     first-mention-Inv-loop
     first-mention-μ-loop
-    (λ c. (search needs, omega arith, refl))
+    (λ c κs. search needs)
+    (λ c. (search needs, search needs, search scan-start))
     (λ c κs. search needs)
     (λ c. scan-told (search needs) (search scan-answers))
     (λ c κs. search needs)
@@ -60,9 +62,11 @@ pub +first-mention-spec : {M : Type 1} → statement M
     (λ c. search needs)
     (λ c. search needs)
     (λ c. scan-told (search needs) (search scan-answers))
+    (λ c κs. search needs)
     (λ c. search needs)
     (λ c. (search needs, search needs, search event-miss))
     (λ c. search needs)
+    (λ c κs. search next-nested)
     (λ c. search needs)
-    (λ c. (search next-nested, omega arith, search row-miss))
+    (λ c. (search needs, search needs, search row-miss))
     (λ c. scan-told (search needs) (search scan-answers))
