@@ -71,9 +71,9 @@ pub fn numbers_of(answer: Answer) -> Numbers
         Answer::GivesUp(stop) => Numbers {
             answer: 2,
             state: 0,
-            reason: stop.reason,
-            lo: stop.lo,
-            hi: stop.hi,
+            reason: stop.reason as usize,
+            lo: stop.lo as usize,
+            hi: stop.hi as usize,
         },
         Answer::Refused(refusal, place) => Numbers {
             answer: 3,

@@ -10,9 +10,9 @@ pub enum DaOut {
 
 // Where and why the walk stopped.
 pub struct DaGiveUp {
-    pub reason: usize,
-    pub lo: usize,
-    pub hi: usize,
+    pub reason: u32,
+    pub lo: u32,
+    pub hi: u32,
 }
 
 pub enum DaResult {

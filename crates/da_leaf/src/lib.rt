@@ -19,7 +19,7 @@ ghost use Rattle.da_rows.specs.Tables.{untimed, factIn};
 ghost use Rattle.da_leaf.specs.Leaves.{onlyWrittenAt, isLident, targetAt, assignAt, eventAt, blockingAt, scheduled, nonblockingAt, returnAt, taskAt, disableAt, eventControlAt, constructOf, LeafRow, leafAt};
 
 // A statement that is accepted only where the local is written.
-fn only_written(rows: &[u32], i: usize, reason: usize, assigned: bool) -> DaResult
+fn only_written(rows: &[u32], i: usize, reason: u32, assigned: bool) -> DaResult
     requires { ⌜ 5 * i + 4 < length (now rows) ⌝ }
     ensures { λ r. ⌜ r ≡ onlyWrittenAt (now (rows .entry)) i reason assigned ⌝ }
 {

@@ -31,8 +31,8 @@ use Rattle.da_rows.specs.Tables.{firstLo, firstHi, factsIn, factIn, held
 use Rattle.da_rows.specs.Asking.{statesAfter, evaluation, onward, giveUpAt}
 
 -- give_up and read_at
-pub gives-up : (rows : List ℕ) (i reason l lo h hi : ℕ) → l ≡ loAt rows i → lo ≡ l → h ≡ hiAt rows i → hi ≡ h → _≡_ {A = DaGiveUp} (record { reason = reason; lo = lo; hi = hi }) (giveUpAt rows i reason)
-gives-up rows i reason l lo h hi p q r s = rw (q, p, s, r)
+pub gives-up : (rows : List ℕ) (i reason lo hi : ℕ) → lo ≡ loAt rows i → hi ≡ hiAt rows i → _≡_ {A = DaGiveUp} (record { reason = reason; lo = lo; hi = hi }) (giveUpAt rows i reason)
+gives-up rows i reason lo hi p q = rw (p, q)
 
 module _ (rows : List ℕ) (from to : ℕ) where
   pub reads-some : (stop : DaGiveUp) → from < to → stop ≡ giveUpAt rows from 2 → stop ≡ record { reason = 2; lo = firstLo rows from to; hi = firstHi rows from to }

@@ -1,7 +1,7 @@
 -- Parts of statements: what the functions answer, from what stands in the code where they return, and that the walk tells its parts
 -- apart in the same way.
 use mathlib.Core.Path.{_≡_, refl, sym, _∙_}
-use mathlib.Core.Bool.{Bool, true, false, not, and-false, and-true}
+use mathlib.Core.Bool.{Bool, true, false, not, and-false, and-true, _||_}
 use mathlib.Core.List.{List, [], _∷_}
 use Prim.Native.Nat.{ℕ, _+_, _≤_, _<_}
 use lib.Dec.{ltb}
@@ -105,7 +105,15 @@ module _ (rows : List ℕ) (i from to : ℕ) (out : DaOut) (b : Bool) (e : b ≡
     pub body-stays : (n : ℕ) (r : Bool) → s ≡ 1 → Nested rows from to → NextRow rows from to n → r ≡ cannotEscape (tree rows from n) → r ≡ bodyAssigns rows i from to out
     body-stays n r q g t v = v ∙ escape-alone g (t .is) ∙ rw (← e, not-false b h, ← p, q) (sym (and-true (nth true 0 (cannotEscapes (tree rows from to)))))
 
-pub ruleset outs = (needs, case-written, case-default, case-other, body-unwritten, body-no-round, body-stays)
+-- rounds_write
+module _ (rows : List ℕ) (i from to : ℕ) (out : DaOut) (after : Bool) where
+  pub rounds-after : after ≡ true → true ≡ after || bodyAssigns rows i from to out
+  rounds-after h = rw h
+
+  pub rounds-body : (r : Bool) → after ≡ false → r ≡ bodyAssigns rows i from to out → r ≡ after || bodyAssigns rows i from to out
+  rounds-body r h e = rw h e
+
+pub ruleset outs = (needs, case-written, case-default, case-other, body-unwritten, body-no-round, body-stays, rounds-after, rounds-body)
 
 -- What the walk knows of the first of the rows from `from` up to `to`
 

@@ -40,14 +40,14 @@ pub enum Evaluated {
 }
 
 // A give-up at row i.
-pub fn give_up(rows: &[u32], i: usize, reason: usize) -> DaGiveUp
+pub fn give_up(rows: &[u32], i: usize, reason: u32) -> DaGiveUp
     requires { ⌜ 5 * i + 4 < length (now rows) ⌝ }
     ensures { λ r. ⌜ r ≡ giveUpAt (now (rows .entry)) i reason ⌝ }
 {
     DaGiveUp {
         reason,
-        lo: table::wide(table::lo_at(rows, i)),
-        hi: table::wide(table::hi_at(rows, i)),
+        lo: table::lo_at(rows, i),
+        hi: table::hi_at(rows, i),
     }
 }
 
@@ -274,7 +274,7 @@ fn falls_written(out: DaOut) -> bool
 }
 
 // loop_body_assigns, of the loop in row i and its body, the first of the rows from `from` up to `to`.
-pub fn loop_body_assigns(rows: &[u32], i: usize, from: usize, to: usize, out: DaOut) -> bool
+fn loop_body_assigns(rows: &[u32], i: usize, from: usize, to: usize, out: DaOut) -> bool
     requires { ⌜ (Nested (now rows) from to) × (i < from) ⌝ }
     ensures { λ r. ⌜ r ≡ bodyAssigns (now (rows .entry)) i from to out ⌝ }
 {
@@ -286,4 +286,22 @@ pub fn loop_body_assigns(rows: &[u32], i: usize, from: usize, to: usize, out: Da
     }
     let next = table::next_at(rows, from, to);
     loops::stmt_cannot_escape(rows, from, next)
+}
+
+// Whether the local is written after the rounds of a loop. Where it is so after the condition, the body is not looked at.
+pub fn rounds_write(
+    rows: &[u32],
+    i: usize,
+    from: usize,
+    to: usize,
+    out: DaOut,
+    after: bool,
+) -> bool
+    requires { ⌜ (Nested (now rows) from to) × (i < from) ⌝ }
+    ensures { λ r. ⌜ r ≡ after || bodyAssigns (now (rows .entry)) i from to out ⌝ }
+{
+    if after {
+        return true;
+    }
+    loop_body_assigns(rows, i, from, to, out)
 }

@@ -41,12 +41,11 @@ module _ (ctx : DaCtx) (rows : List ℕ) (at : Loop) (after inBody : State) (r :
     pub step-stops : (stop : DaGiveUp) → s ≡ Err stop → s ≡ roundsAt ctx rows at after inBody
     step-stops stop k = k ∙ sym (rounds-are s f ∙ rw (h, k))
 
-    pub rounds-fall : (stepOut : DaOut) (wrote b : Bool)
+    pub rounds-fall : (stepOut : DaOut) (wrote : State)
         → s ≡ Ok stepOut
-        → wrote ≡ bodyAssigns rows (at .row) (at .body) (at .end) out
-        → b ≡ gains wrote after
-        → Ok (Falls b) ≡ roundsAt ctx rows at after inBody
-    rounds-fall stepOut wrote b k w v = sym (rounds-are s f ∙ rw (h, k, v, w))
+        → wrote ≡ gains (bodyAssigns rows (at .row) (at .body) (at .end) out) after
+        → Ok (Falls wrote) ≡ roundsAt ctx rows at after inBody
+    rounds-fall stepOut wrote k w = sym (rounds-are s f ∙ rw (h, k, w))
 
 -- da_condition
 while-after : (r : StmtRow) (cannotEscape : Bool) (c : ExprFacts) (body step : Walk) (a : State) (q : Evaluated) (states : States)

@@ -270,8 +270,8 @@ fn da_rounds(
     let DaResult::Ok(step_out) = s else {
         return s;
     };
-    let wrote = da_rows::loop_body_assigns(rows, at.row, at.body, at.end, body_out);
-    DaResult::Ok(DaOut::Falls(da_rows::gains(wrote, after)))
+    let wrote = da_rows::rounds_write(rows, at.row, at.body, at.end, body_out, after);
+    DaResult::Ok(DaOut::Falls(wrote))
 }
 
 // A loop from its condition on, the first of the rows from `test` on: a round is entered only where it is true.

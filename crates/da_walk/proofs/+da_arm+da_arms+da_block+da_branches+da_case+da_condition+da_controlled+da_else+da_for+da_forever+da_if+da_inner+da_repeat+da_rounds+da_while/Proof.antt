@@ -62,7 +62,7 @@ use Rattle.da_rows.proofs.evaluate.Reads as evaluate-reads
 use Rattle.da_rows.proofs.gains.Reads as gains-reads
 use Rattle.da_rows.proofs.is_absent.Reads as is-absent-reads
 use Rattle.da_rows.proofs.is_default.Reads as is-default-reads
-use Rattle.da_rows.proofs.loop_body_assigns.Reads as loop-body-assigns-reads
+use Rattle.da_rows.proofs.rounds_write.Reads as rounds-write-reads
 use Rattle.da_rows.proofs.unless_label_read.Reads as unless-label-read-reads
 use Rattle.kinds.proofs.stmt_class.Reads as stmt-class-reads
 use Rattle.table.proofs.kind_at.Reads as kind-at-reads
@@ -307,7 +307,7 @@ abbrev da-repeat-calls : ℕ → da-repeat-lts.Claims
 da-repeat-calls t = (next-at-reads.Asked, next-at-reads.Learnt, evaluate-reads.Asked, evaluate-reads.Learnt, da-rounds-below t, da-rounds.Post)
 
 abbrev da-rounds-calls : ℕ → da-rounds-lts.Claims
-da-rounds-calls t = (da-inner-below t, da-inner.Post, loop-body-assigns-reads.Asked, loop-body-assigns-reads.Learnt, gains-reads.Asked, gains-reads.Learnt)
+da-rounds-calls t = (da-inner-below t, da-inner.Post, rounds-write-reads.Asked, rounds-write-reads.Learnt)
 
 abbrev da-while-calls : ℕ → da-while-lts.Claims
 da-while-calls t = (next-at-reads.Asked, next-at-reads.Learnt, da-condition-below t, da-condition.Post)
@@ -524,7 +524,6 @@ pub +da-arm+da-arms+da-block+da-branches+da-case+da-condition+da-controlled+da-e
     (λ c. search needs)
     (λ c. search needs)
     (λ c. search looping)
-    (λ c κs. search needs)
     (λ c κs. search needs)
     (λ c. search looping))
     λ t. da-while-lts.spec
