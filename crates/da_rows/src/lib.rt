@@ -289,14 +289,7 @@ fn loop_body_assigns(rows: &[u32], i: usize, from: usize, to: usize, out: DaOut)
 }
 
 // Whether the local is written after the rounds of a loop. Where it is so after the condition, the body is not looked at.
-pub fn rounds_write(
-    rows: &[u32],
-    i: usize,
-    from: usize,
-    to: usize,
-    out: DaOut,
-    after: bool,
-) -> bool
+pub fn rounds_write(rows: &[u32], i: usize, from: usize, to: usize, out: DaOut, after: bool) -> bool
     requires { ⌜ (Nested (now rows) from to) × (i < from) ⌝ }
     ensures { λ r. ⌜ r ≡ after || bodyAssigns (now (rows .entry)) i from to out ⌝ }
 {

@@ -23,28 +23,27 @@ use Rattle.da_rows.specs.Tables.{stmtAt, factIn}
 use Rattle.da_rows.specs.Asking.{evaluation}
 use Rattle.da_rows.specs.Parts.{bodyAssigns}
 use Rattle.da_rows.proofs.Asking.{states-are, evaluated-stops, evaluated-goes}
-use Rattle.da_walk.specs.declared.Loop.{Loop}
 use Rattle.da_walk.specs.Constructs.{walksIn, walkIn, LoopAt, roundsAt, conditionAt, forAt, whileAt, repeatAt, foreverAt}
 
 -- da_rounds: the body, then the step
-module _ (ctx : DaCtx) (rows : List ℕ) (at : Loop) (after inBody : State) (r : DaResult) (e : r ≡ daStmt ctx (tree rows (at .body) (at .end)) inBody) where
+module _ (ctx : DaCtx) (rows : List ℕ) (row step body end : ℕ) (after inBody : State) (r : DaResult) (e : r ≡ daStmt ctx (tree rows body end) inBody) where
   rounds-are : (s : DaResult)
-      → s ≡ daStmt ctx (tree rows (at .step) (at .body)) inBody
-      → roundsAt ctx rows at after inBody
-      ≡ r ▷ λ bodyOut. s ▷ λ stepOut. Ok (Falls (gains (bodyAssigns rows (at .row) (at .body) (at .end) bodyOut) after))
+      → s ≡ daStmt ctx (tree rows step body) inBody
+      → roundsAt ctx rows row step body end after inBody
+      ≡ r ▷ λ bodyOut. s ▷ λ stepOut. Ok (Falls (gains (bodyAssigns rows row body end bodyOut) after))
   rounds-are s f = rw (e, f)
 
-  pub body-stops : (stop : DaGiveUp) → r ≡ Err stop → r ≡ roundsAt ctx rows at after inBody
+  pub body-stops : (stop : DaGiveUp) → r ≡ Err stop → r ≡ roundsAt ctx rows row step body end after inBody
   body-stops stop h = h ∙ sym (rounds-are _ refl ∙ rw h)
 
-  module _ (out : DaOut) (s : DaResult) (h : r ≡ Ok out) (f : s ≡ daStmt ctx (tree rows (at .step) (at .body)) inBody) where
-    pub step-stops : (stop : DaGiveUp) → s ≡ Err stop → s ≡ roundsAt ctx rows at after inBody
+  module _ (out : DaOut) (s : DaResult) (h : r ≡ Ok out) (f : s ≡ daStmt ctx (tree rows step body) inBody) where
+    pub step-stops : (stop : DaGiveUp) → s ≡ Err stop → s ≡ roundsAt ctx rows row step body end after inBody
     step-stops stop k = k ∙ sym (rounds-are s f ∙ rw (h, k))
 
     pub rounds-fall : (stepOut : DaOut) (wrote : State)
         → s ≡ Ok stepOut
-        → wrote ≡ gains (bodyAssigns rows (at .row) (at .body) (at .end) out) after
-        → Ok (Falls wrote) ≡ roundsAt ctx rows at after inBody
+        → wrote ≡ gains (bodyAssigns rows row body end out) after
+        → Ok (Falls wrote) ≡ roundsAt ctx rows row step body end after inBody
     rounds-fall stepOut wrote k w = sym (rounds-are s f ∙ rw (h, k, w))
 
 -- da_condition
@@ -60,13 +59,13 @@ repeat-after : (r : StmtRow) (cannotEscape : Bool) (c : ExprFacts) (body : Walk)
     → rounds r cannotEscape body noWalk (states .after) (states .after) ≡ repeated r cannotEscape c body a
 repeat-after r cannotEscape c body a q states v h = rw (states-are c a q v states h) (evaluated-goes c a q v states _ h)
 
-module _ (ctx : DaCtx) (rows : List ℕ) (at : Loop) (test : ℕ) (a : State) (q : Evaluated) (e : q ≡ evaluation (factIn (ctx .local) rows test (at .end)) a) where
-  pub condition-stops : (stop : DaGiveUp) → q ≡ Read stop → Err stop ≡ conditionAt ctx rows at test a
+module _ (ctx : DaCtx) (rows : List ℕ) (row step body end : ℕ) (test : ℕ) (a : State) (q : Evaluated) (e : q ≡ evaluation (factIn (ctx .local) rows test end) a) where
+  pub condition-stops : (stop : DaGiveUp) → q ≡ Read stop → Err stop ≡ conditionAt ctx rows row step body end test a
   condition-stops stop h = evaluated-stops _ a q e stop _ h
 
-  pub condition-rounds : (states : States) (r : DaResult) → q ≡ To states → r ≡ roundsAt ctx rows at (states .after) (states .«when_true») → r ≡ conditionAt ctx rows at test a
+  pub condition-rounds : (states : States) (r : DaResult) → q ≡ To states → r ≡ roundsAt ctx rows row step body end (states .after) (states .«when_true») → r ≡ conditionAt ctx rows row step body end test a
   condition-rounds states r h v =
-      v ∙ while-after (stmtAt ctx rows (at .row) (at .end)) (nth true 0 (cannotEscapes (tree rows (at .body) (at .end)))) (factIn (ctx .local) rows test (at .end)) (walkIn ctx rows (at .body) (at .end)) (walkIn ctx rows (at .step) (at .body)) a q states e h
+      v ∙ while-after (stmtAt ctx rows row end) (nth true 0 (cannotEscapes (tree rows body end))) (factIn (ctx .local) rows test end) (walkIn ctx rows body end) (walkIn ctx rows step body) a q states e h
 
 -- a loop without a step
 no-step : (ctx : DaCtx) (rows : List ℕ) (n : ℕ) → walkIn ctx rows n n ≡ noWalk
@@ -93,7 +92,7 @@ module _ (ctx : DaCtx) (rows : List ℕ) (i end : ℕ) (a : State) (r : DaResult
       → NextRow rows (i + 1) end l
       → NextRow rows l end m
       → NextRow rows m end n
-      → s ≡ conditionAt ctx rows (record { row = i; step = m; body = n; end = end }) l b
+      → s ≡ conditionAt ctx rows i m n end l b
       → s ≡ forAt ctx rows i end a
   for-goes out b l m n s h k g t u w v =
       v
@@ -103,7 +102,7 @@ module _ (ctx : DaCtx) (rows : List ℕ) (i end : ℕ) (a : State) (r : DaResult
 -- da_while, da_repeat, da_forever
 module _ (ctx : DaCtx) (rows : List ℕ) (i end n : ℕ) (a : State) (g : RowAlone rows i end) where
   module _ (t : NextRow rows (i + 1) end n) where
-    pub while-goes : (s : DaResult) → s ≡ conditionAt ctx rows (record { row = i; step = n; body = n; end = end }) (i + 1) a → s ≡ whileAt ctx rows i end a
+    pub while-goes : (s : DaResult) → s ≡ conditionAt ctx rows i n n end (i + 1) a → s ≡ whileAt ctx rows i end a
     while-goes s v =
         v
         ∙ rw (no-step ctx rows n, fold-next (walkAt ctx) noWalk 0 (g .children) (t .is), fold-next cannotEscapeAt true 0 (g .children) (t .is))
@@ -114,7 +113,7 @@ module _ (ctx : DaCtx) (rows : List ℕ) (i end n : ℕ) (a : State) (g : RowAlo
 
       pub repeat-goes : (states : States) (s : DaResult)
           → q ≡ To states
-          → s ≡ roundsAt ctx rows (record { row = i; step = n; body = n; end = end }) (states .after) (states .after)
+          → s ≡ roundsAt ctx rows i n n end (states .after) (states .after)
           → s ≡ repeatAt ctx rows i end a
       repeat-goes states s h v =
           v
@@ -122,19 +121,19 @@ module _ (ctx : DaCtx) (rows : List ℕ) (i end n : ℕ) (a : State) (g : RowAlo
           (repeat-after (stmtAt ctx rows i end) (nth true 1 (cannotEscapes (tree rows (i + 1) end))) (factIn (ctx .local) rows (i + 1) end) (nth noWalk 1 (walksIn ctx rows (i + 1) end)) a q states e h)
 
 pub forever-goes : (ctx : DaCtx) (rows : List ℕ) (i end : ℕ) (a : State) (s : DaResult)
-    → s ≡ roundsAt ctx rows (record { row = i; step = i + 1; body = i + 1; end = end }) a a
+    → s ≡ roundsAt ctx rows i (i + 1) (i + 1) end a a
     → s ≡ foreverAt ctx rows i end a
 forever-goes ctx rows i end a s v = v ∙ rw (no-step ctx rows (i + 1))
 
 -- where loops stand
 module _ (rows : List ℕ) (i end : ℕ) (g : RowAlone rows i end) where
-  pub for-at : (l m n : ℕ) → NextRow rows (i + 1) end l → NextRow rows l end m → NextRow rows m end n → LoopAt rows (record { row = i; step = m; body = n; end = end })
+  pub for-at : (l m n : ℕ) → NextRow rows (i + 1) end l → NextRow rows l end m → NextRow rows m end n → LoopAt rows i m n end
   for-at l m n t u w = record { below = omega (arith, t .after, u .after); steps = w .alone; bodies = w .others }
 
-  pub stepless-at : (n : ℕ) → NextRow rows (i + 1) end n → LoopAt rows (record { row = i; step = n; body = n; end = end })
+  pub stepless-at : (n : ℕ) → NextRow rows (i + 1) end n → LoopAt rows i n n end
   stepless-at n t = record { below = omega (arith, t .after); steps = nested-none (t .others); bodies = t .others }
 
-  pub forever-at : LoopAt rows (record { row = i; step = i + 1; body = i + 1; end = end })
+  pub forever-at : LoopAt rows i (i + 1) (i + 1) end
   forever-at = record { below = omega arith; steps = nested-none (g .children); bodies = g .children }
 
 pub ruleset looping = (body-stops, step-stops, rounds-fall, condition-stops, condition-rounds, for-stops, for-goes, while-goes, repeat-stops, repeat-goes, forever-goes, for-at, stepless-at, forever-at)

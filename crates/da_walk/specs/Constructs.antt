@@ -23,7 +23,6 @@ use Rattle.da_rows.specs.Parts.{caseOut}
 use Rattle.da_leaf.specs.declared.Construct.{Construct}
 use Rattle.da_leaf.specs.declared.Construct.the-variants.{Leaf, Controlled, Arm, Block, If, Case, For, While, Repeat, Forever}
 use Rattle.da_leaf.specs.Leaves.{leafAt}
-use Rattle.da_walk.specs.declared.Loop.{Loop}
 
 -- the walks of the rows from `from` up to `to`: each sibling's
 abbrev pub walksIn : DaCtx → List ℕ → ℕ → ℕ → List Walk
@@ -77,20 +76,20 @@ abbrev pub controlledAt : DaCtx → List ℕ → StmtClass → ℕ → ℕ → S
 controlledAt ctx rows class i end a = leafAt ctx rows class i end a ▷ λ out. nth noWalk 1 (walksIn ctx rows (i + 1) end) .walk a
 
 -- a loop's step and body are rows after its row
-pub record LoopAt (rows : List ℕ) (at : Loop) : Type 0 where
-  pub below : at .row < at .step
-  pub steps : Nested rows (at .step) (at .body)
-  pub bodies : Nested rows (at .body) (at .end)
+pub record LoopAt (rows : List ℕ) (row step body end : ℕ) : Type 0 where
+  pub below : row < step
+  pub steps : Nested rows step body
+  pub bodies : Nested rows body end
 
 -- every loop's rounds, from the state after its condition and the one where a round starts
-abbrev pub roundsAt : DaCtx → List ℕ → Loop → State → State → DaResult
-roundsAt ctx rows at after inBody =
-    rounds (stmtAt ctx rows (at .row) (at .end)) (nth true 0 (cannotEscapes (tree rows (at .body) (at .end)))) (walkIn ctx rows (at .body) (at .end)) (walkIn ctx rows (at .step) (at .body)) after inBody
+abbrev pub roundsAt : DaCtx → List ℕ → (row step body end : ℕ) → State → State → DaResult
+roundsAt ctx rows row step body end after inBody =
+    rounds (stmtAt ctx rows row end) (nth true 0 (cannotEscapes (tree rows body end))) (walkIn ctx rows body end) (walkIn ctx rows step body) after inBody
 
 -- S::While, and S::For after its init, from the condition on
-abbrev pub conditionAt : DaCtx → List ℕ → Loop → ℕ → State → DaResult
-conditionAt ctx rows at test a =
-    whileTrue (stmtAt ctx rows (at .row) (at .end)) (nth true 0 (cannotEscapes (tree rows (at .body) (at .end)))) (factIn (ctx .local) rows test (at .end)) (walkIn ctx rows (at .body) (at .end)) (walkIn ctx rows (at .step) (at .body)) a
+abbrev pub conditionAt : DaCtx → List ℕ → (row step body end : ℕ) → ℕ → State → DaResult
+conditionAt ctx rows row step body end test a =
+    whileTrue (stmtAt ctx rows row end) (nth true 0 (cannotEscapes (tree rows body end))) (factIn (ctx .local) rows test end) (walkIn ctx rows body end) (walkIn ctx rows step body) a
 
 -- S::For in row i, which ends at `end`
 abbrev pub forAt : DaCtx → List ℕ → ℕ → ℕ → State → DaResult

@@ -18,15 +18,6 @@ ghost use Rattle.da_rows.specs.Tables.{untimed};
 ghost use Rattle.da_leaf.specs.Leaves.{LeafRow};
 ghost use Rattle.da_walk.specs.Constructs.{blockIn, ifIn, branchesIn, elseIn, caseIn, armsIn, armIn, controlledAt, LoopAt, roundsAt, conditionAt, forAt, whileAt, repeatAt, foreverAt, StatementIn, advancesAlone};
 
-// Where a loop stands: its row, its step, its body and its end. The step is what stands between `step` and `body`, which is nothing where
-// a loop has none.
-struct Loop {
-    row: usize,
-    step: usize,
-    body: usize,
-    end: usize,
-}
-
 // The walk of the first of the rows from `from` up to `to`. Whether time can advance has been asked of a statement that holds it.
 fn da_inner(
     rows: &[u32],
@@ -250,27 +241,32 @@ fn da_arm(
     da_inner(rows, names, ctx, from, to, after)
 }
 
-// The rounds of a loop: its body, then its step, both from where a round starts.
+// The rounds of the loop in row `row`: its body, then its step, both from where a round starts. The step is what stands between `step`
+// and `body`, which is nothing where a loop has none, and the body is the first row from there on. Four numbers and no struct: each
+// struct that is passed takes room on the stack of every loop within a loop.
 fn da_rounds(
     rows: &[u32],
     names: &[u32],
     ctx: Context,
-    at: Loop,
+    row: usize,
+    step: usize,
+    body: usize,
+    end: usize,
     after: bool,
     in_body: bool,
 ) -> DaResult
-    requires { ⌜ LoopAt (now rows) at ⌝ }
-    ensures { λ r. ⌜ r ≡ roundsAt (untimed ctx (now (names .entry))) (now (rows .entry)) at after «in_body» ⌝ }
+    requires { ⌜ LoopAt (now rows) row step body end ⌝ }
+    ensures { λ r. ⌜ r ≡ roundsAt (untimed ctx (now (names .entry))) (now (rows .entry)) row step body end after «in_body» ⌝ }
 {
-    let r = da_inner(rows, names, ctx, at.body, at.end, in_body);
+    let r = da_inner(rows, names, ctx, body, end, in_body);
     let DaResult::Ok(body_out) = r else {
         return r;
     };
-    let s = da_inner(rows, names, ctx, at.step, at.body, in_body);
+    let s = da_inner(rows, names, ctx, step, body, in_body);
     let DaResult::Ok(step_out) = s else {
         return s;
     };
-    let wrote = da_rows::rounds_write(rows, at.row, at.body, at.end, body_out, after);
+    let wrote = da_rows::rounds_write(rows, row, body, end, body_out, after);
     DaResult::Ok(DaOut::Falls(wrote))
 }
 
@@ -279,17 +275,30 @@ fn da_condition(
     rows: &[u32],
     names: &[u32],
     ctx: Context,
-    at: Loop,
+    row: usize,
+    step: usize,
+    body: usize,
+    end: usize,
     test: usize,
     assigned: bool,
 ) -> DaResult
-    requires { ⌜ (LoopAt (now rows) at) × (Nested (now rows) test (at .end)) ⌝ }
-    ensures { λ r. ⌜ r ≡ conditionAt (untimed ctx (now (names .entry))) (now (rows .entry)) at test assigned ⌝ }
+    requires { ⌜ (LoopAt (now rows) row step body end) × (Nested (now rows) test end) ⌝ }
+    ensures { λ r. ⌜ r ≡ conditionAt (untimed ctx (now (names .entry))) (now (rows .entry)) row step body end test assigned ⌝ }
 {
-    let e = da_rows::evaluate(rows, ctx.local, test, at.end, assigned);
+    let e = da_rows::evaluate(rows, ctx.local, test, end, assigned);
     match e {
         Evaluated::Read(stop) => DaResult::Err(stop),
-        Evaluated::To(states) => da_rounds(rows, names, ctx, at, states.after, states.when_true),
+        Evaluated::To(states) => da_rounds(
+            rows,
+            names,
+            ctx,
+            row,
+            step,
+            body,
+            end,
+            states.after,
+            states.when_true,
+        ),
     }
 }
 
@@ -312,13 +321,7 @@ fn da_for(
     let test = table::next_at(rows, i + 1, end);
     let step = table::next_at(rows, test, end);
     let body = table::next_at(rows, step, end);
-    let at = Loop {
-        row: i,
-        step,
-        body,
-        end,
-    };
-    da_condition(rows, names, ctx, at, test, da::state(out))
+    da_condition(rows, names, ctx, i, step, body, end, test, da::state(out))
 }
 
 fn da_while(
@@ -333,13 +336,7 @@ fn da_while(
     ensures { λ r. ⌜ r ≡ whileAt (untimed ctx (now (names .entry))) (now (rows .entry)) i end assigned ⌝ }
 {
     let body = table::next_at(rows, i + 1, end);
-    let at = Loop {
-        row: i,
-        step: body,
-        body,
-        end,
-    };
-    da_condition(rows, names, ctx, at, i + 1, assigned)
+    da_condition(rows, names, ctx, i, body, body, end, i + 1, assigned)
 }
 
 // A repeat: its count is evaluated once, and tells nothing of a round.
@@ -355,16 +352,20 @@ fn da_repeat(
     ensures { λ r. ⌜ r ≡ repeatAt (untimed ctx (now (names .entry))) (now (rows .entry)) i end assigned ⌝ }
 {
     let body = table::next_at(rows, i + 1, end);
-    let at = Loop {
-        row: i,
-        step: body,
-        body,
-        end,
-    };
     let e = da_rows::evaluate(rows, ctx.local, i + 1, end, assigned);
     match e {
         Evaluated::Read(stop) => DaResult::Err(stop),
-        Evaluated::To(states) => da_rounds(rows, names, ctx, at, states.after, states.after),
+        Evaluated::To(states) => da_rounds(
+            rows,
+            names,
+            ctx,
+            i,
+            body,
+            body,
+            end,
+            states.after,
+            states.after,
+        ),
     }
 }
 
@@ -379,13 +380,7 @@ fn da_forever(
     requires { ⌜ RowAlone (now rows) i end ⌝ }
     ensures { λ r. ⌜ r ≡ foreverAt (untimed ctx (now (names .entry))) (now (rows .entry)) i end assigned ⌝ }
 {
-    let at = Loop {
-        row: i,
-        step: i + 1,
-        body: i + 1,
-        end,
-    };
-    da_rounds(rows, names, ctx, at, assigned, assigned)
+    da_rounds(rows, names, ctx, i, i + 1, i + 1, end, assigned, assigned)
 }
 
 // Whether the net is shared and time can advance in the first of the rows from `from` up to `to`.

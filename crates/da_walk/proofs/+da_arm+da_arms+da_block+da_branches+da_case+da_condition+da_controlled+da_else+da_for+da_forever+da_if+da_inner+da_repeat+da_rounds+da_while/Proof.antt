@@ -91,7 +91,7 @@ abbrev μ-da-case : Measures 2 da-case-kinds.ps ℕ
 μ-da-case κs a = 5 * (a .1 .1 .1 .1 .0 - a .1 .1 .1 .0) + 7
 
 abbrev μ-da-condition : Measures 2 da-condition-kinds.ps ℕ
-μ-da-condition κs a = 5 * (a .1 .1 .1 .0 .end - a .1 .1 .1 .0 .row) + 2
+μ-da-condition κs a = 5 * (a .1 .1 .1 .1 .1 .1 .0 - a .1 .1 .1 .0) + 2
 
 abbrev μ-da-controlled : Measures 2 da-controlled-kinds.ps ℕ
 μ-da-controlled κs a = 5 * (a .1 .1 .1 .1 .1 .0 - a .1 .1 .1 .1 .0) + 3
@@ -115,7 +115,7 @@ abbrev μ-da-repeat : Measures 2 da-repeat-kinds.ps ℕ
 μ-da-repeat κs a = 5 * (a .1 .1 .1 .1 .0 - a .1 .1 .1 .0) + 3
 
 abbrev μ-da-rounds : Measures 2 da-rounds-kinds.ps ℕ
-μ-da-rounds κs a = 5 * (a .1 .1 .1 .0 .end - a .1 .1 .1 .0 .row) + 1
+μ-da-rounds κs a = 5 * (a .1 .1 .1 .1 .1 .1 .0 - a .1 .1 .1 .0) + 1
 
 abbrev μ-da-while : Measures 2 da-while-kinds.ps ℕ
 μ-da-while κs a = 5 * (a .1 .1 .1 .1 .0 - a .1 .1 .1 .0) + 3
@@ -273,21 +273,21 @@ da-for-calls t = (da-inner-below t, da-inner.Post, next-at-reads.Asked, next-at-
 abbrev da-forever-calls : ℕ → da-forever-lts.Claims
 da-forever-calls t = (da-rounds-below t, da-rounds.Post)
 
-da-forever-add-t8 :
+da-forever-add-da-rounds :
     (t : ℕ) →
-    da-forever-lts.Need-add-t8
+    da-forever-lts.Need-add-da-rounds
     (da-forever-calls t)
     (da-forever-at t)
     da-forever.Post
-da-forever-add-t8 t c = search needs
+da-forever-add-da-rounds t c = search needs
 
-da-forever-add-t9 :
+da-forever-add-da-rounds-2 :
     (t : ℕ) →
-    da-forever-lts.Need-add-t9
+    da-forever-lts.Need-add-da-rounds-2
     (da-forever-calls t)
     (da-forever-at t)
     da-forever.Post
-da-forever-add-t9 t c = search needs
+da-forever-add-da-rounds-2 t c = search needs
 
 da-forever-returns :
     (t : ℕ) →
@@ -445,8 +445,8 @@ pub +da-arm+da-arms+da-block+da-branches+da-case+da-condition+da-controlled+da-e
     (da-forever-calls t)
     (da-forever-at t)
     da-forever.Post
-    (da-forever-add-t8 t)
-    (da-forever-add-t9 t)
+    (da-forever-add-da-rounds t)
+    (da-forever-add-da-rounds-2 t)
     (λ c κs. search needs)
     (da-forever-returns t))
     (λ t. da-if-lts.spec (da-if-calls t)
