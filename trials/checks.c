@@ -377,6 +377,7 @@ static void check_no_memory(const full_run *full)
 
 da_answer check_sheet(const uint8_t *bytes, size_t size)
 {
+    require(da_row_numbers() == DA_ROW_NUMBERS && da_name_numbers() == DA_NAME_NUMBERS);
     full_run full = {.at_start = lend_sheet(bytes, size, EDGE_START), .at_end = lend_sheet(bytes, size, EDGE_END)};
     full.filled = (tables){lend_table(DA_ROW_NUMBERS, EDGE_END), lend_table(DA_NAME_NUMBERS, EDGE_END)};
     full.told = lent_load(full.at_end, full.filled);

@@ -46,7 +46,7 @@ module _ (ctx : DaCtx) (rows : List ℕ) (row step body end : ℕ) (after inBody
         → Ok (Falls wrote) ≡ roundsAt ctx rows row step body end after inBody
     rounds-fall stepOut wrote k w = sym (rounds-are s f ∙ rw (h, k, w))
 
--- da_condition
+-- from the condition on
 while-after : (r : StmtRow) (cannotEscape : Bool) (c : ExprFacts) (body step : Walk) (a : State) (q : Evaluated) (states : States)
     → q ≡ evaluation c a
     → q ≡ To states
@@ -60,10 +60,10 @@ repeat-after : (r : StmtRow) (cannotEscape : Bool) (c : ExprFacts) (body : Walk)
 repeat-after r cannotEscape c body a q states v h = rw (states-are c a q v states h) (evaluated-goes c a q v states _ h)
 
 module _ (ctx : DaCtx) (rows : List ℕ) (row step body end : ℕ) (test : ℕ) (a : State) (q : Evaluated) (e : q ≡ evaluation (factIn (ctx .local) rows test end) a) where
-  pub condition-stops : (stop : DaGiveUp) → q ≡ Read stop → Err stop ≡ conditionAt ctx rows row step body end test a
+  condition-stops : (stop : DaGiveUp) → q ≡ Read stop → Err stop ≡ conditionAt ctx rows row step body end test a
   condition-stops stop h = evaluated-stops _ a q e stop _ h
 
-  pub condition-rounds : (states : States) (r : DaResult) → q ≡ To states → r ≡ roundsAt ctx rows row step body end (states .after) (states .«when_true») → r ≡ conditionAt ctx rows row step body end test a
+  condition-rounds : (states : States) (r : DaResult) → q ≡ To states → r ≡ roundsAt ctx rows row step body end (states .after) (states .«when_true») → r ≡ conditionAt ctx rows row step body end test a
   condition-rounds states r h v =
       v ∙ while-after (stmtAt ctx rows row end) (nth true 0 (cannotEscapes (tree rows body end))) (factIn (ctx .local) rows test end) (walkIn ctx rows body end) (walkIn ctx rows step body) a q states e h
 
@@ -85,7 +85,7 @@ module _ (ctx : DaCtx) (rows : List ℕ) (i end : ℕ) (a : State) (r : DaResult
   pub for-stops : (stop : DaGiveUp) → r ≡ Err stop → r ≡ forAt ctx rows i end a
   for-stops stop h = h ∙ rw (← e, h)
 
-  pub for-goes : (out : DaOut) (b : State) (l m n : ℕ) (s : DaResult)
+  for-goes : (out : DaOut) (b : State) (l m n : ℕ) (s : DaResult)
       → r ≡ Ok out
       → b ≡ state out
       → RowAlone rows i end
@@ -99,15 +99,28 @@ module _ (ctx : DaCtx) (rows : List ℕ) (i end : ℕ) (a : State) (r : DaResult
       ∙ rw
       (fold-first (walkAt ctx) noWalk (u .others) (w .is), fold-next (walkAt ctx) noWalk 0 (u .others) (w .is), fold-next (walkAt ctx) noWalk 1 (t .others) (u .is), fold-next (walkAt ctx) noWalk 2 (g .children) (t .is), fold-next (walkAt ctx) noWalk 0 (t .others) (u .is), fold-next (walkAt ctx) noWalk 1 (g .children) (t .is), fold-next cannotEscapeAt true 0 (u .others) (w .is), fold-next cannotEscapeAt true 1 (t .others) (u .is), fold-next cannotEscapeAt true 2 (g .children) (t .is), fold-next (factsAt (ctx .local)) noFacts 0 (g .children) (t .is), k, ← e, h)
 
+  module _ (out : DaOut) (b : State) (l m n : ℕ) (h : r ≡ Ok out) (k : b ≡ state out) (g : RowAlone rows i end) (t : NextRow rows (i + 1) end l) (u : NextRow rows l end m) (w : NextRow rows m end n) (q : Evaluated) (v : q ≡ evaluation (factIn (ctx .local) rows l end) b) where
+    pub for-reads : (stop : DaGiveUp) → q ≡ Read stop → Err stop ≡ forAt ctx rows i end a
+    for-reads stop p = for-goes out b l m n (Err stop) h k g t u w (condition-stops ctx rows i m n end l b q v stop p)
+
+    pub for-rounds : (states : States) (s : DaResult) → q ≡ To states → s ≡ roundsAt ctx rows i m n end (states .after) (states .«when_true») → s ≡ forAt ctx rows i end a
+    for-rounds states s p z = for-goes out b l m n s h k g t u w (condition-rounds ctx rows i m n end l b q v states s p z)
+
 -- da_while, da_repeat, da_forever
 module _ (ctx : DaCtx) (rows : List ℕ) (i end n : ℕ) (a : State) (g : RowAlone rows i end) where
   module _ (t : NextRow rows (i + 1) end n) where
-    pub while-goes : (s : DaResult) → s ≡ conditionAt ctx rows i n n end (i + 1) a → s ≡ whileAt ctx rows i end a
+    while-goes : (s : DaResult) → s ≡ conditionAt ctx rows i n n end (i + 1) a → s ≡ whileAt ctx rows i end a
     while-goes s v =
         v
         ∙ rw (no-step ctx rows n, fold-next (walkAt ctx) noWalk 0 (g .children) (t .is), fold-next cannotEscapeAt true 0 (g .children) (t .is))
 
     module _ (q : Evaluated) (e : q ≡ evaluation (factIn (ctx .local) rows (i + 1) end) a) where
+      pub while-reads : (stop : DaGiveUp) → q ≡ Read stop → Err stop ≡ whileAt ctx rows i end a
+      while-reads stop h = while-goes (Err stop) (condition-stops ctx rows i n n end (i + 1) a q e stop h)
+
+      pub while-rounds : (states : States) (s : DaResult) → q ≡ To states → s ≡ roundsAt ctx rows i n n end (states .after) (states .«when_true») → s ≡ whileAt ctx rows i end a
+      while-rounds states s h v = while-goes s (condition-rounds ctx rows i n n end (i + 1) a q e states s h v)
+
       pub repeat-stops : (stop : DaGiveUp) → q ≡ Read stop → Err stop ≡ repeatAt ctx rows i end a
       repeat-stops stop h = evaluated-stops _ a q e stop _ h
 
@@ -136,4 +149,4 @@ module _ (rows : List ℕ) (i end : ℕ) (g : RowAlone rows i end) where
   pub forever-at : LoopAt rows i (i + 1) (i + 1) end
   forever-at = record { below = omega arith; steps = nested-none (g .children); bodies = g .children }
 
-pub ruleset looping = (body-stops, step-stops, rounds-fall, condition-stops, condition-rounds, for-stops, for-goes, while-goes, repeat-stops, repeat-goes, forever-goes, for-at, stepless-at, forever-at)
+pub ruleset looping = (body-stops, step-stops, rounds-fall, for-stops, for-reads, for-rounds, while-reads, while-rounds, repeat-stops, repeat-goes, forever-goes, for-at, stepless-at, forever-at)

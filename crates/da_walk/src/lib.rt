@@ -16,7 +16,7 @@ ghost use Rattle.soundness.specs.Demand3.{WalkMeans};
 ghost use Rattle.sheet_record.specs.Records.{marksOf};
 ghost use Rattle.da_rows.specs.Tables.{untimed};
 ghost use Rattle.da_leaf.specs.Leaves.{LeafRow};
-ghost use Rattle.da_walk.specs.Constructs.{blockIn, ifIn, branchesIn, elseIn, caseIn, armsIn, armIn, controlledAt, LoopAt, roundsAt, conditionAt, forAt, whileAt, repeatAt, foreverAt, StatementIn, advancesAlone};
+ghost use Rattle.da_walk.specs.Constructs.{blockIn, ifIn, branchesIn, elseIn, caseIn, armsIn, armIn, controlledAt, LoopAt, roundsAt, forAt, whileAt, repeatAt, foreverAt, StatementIn, advancesAlone};
 
 // The walk of the first of the rows from `from` up to `to`. Whether time can advance has been asked of a statement that holds it.
 fn da_inner(
@@ -270,39 +270,7 @@ fn da_rounds(
     DaResult::Ok(DaOut::Falls(wrote))
 }
 
-// A loop from its condition on, the first of the rows from `test` on: a round is entered only where it is true.
-fn da_condition(
-    rows: &[u32],
-    names: &[u32],
-    ctx: Context,
-    row: usize,
-    step: usize,
-    body: usize,
-    end: usize,
-    test: usize,
-    assigned: bool,
-) -> DaResult
-    requires { ⌜ (LoopAt (now rows) row step body end) × (Nested (now rows) test end) ⌝ }
-    ensures { λ r. ⌜ r ≡ conditionAt (untimed ctx (now (names .entry))) (now (rows .entry)) row step body end test assigned ⌝ }
-{
-    let e = da_rows::evaluate(rows, ctx.local, test, end, assigned);
-    match e {
-        Evaluated::Read(stop) => DaResult::Err(stop),
-        Evaluated::To(states) => da_rounds(
-            rows,
-            names,
-            ctx,
-            row,
-            step,
-            body,
-            end,
-            states.after,
-            states.when_true,
-        ),
-    }
-}
-
-// A for in row i: its init, then condition, step and body.
+// A for in row i: its init, then its condition, and rounds where that is true.
 fn da_for(
     rows: &[u32],
     names: &[u32],
@@ -321,7 +289,21 @@ fn da_for(
     let test = table::next_at(rows, i + 1, end);
     let step = table::next_at(rows, test, end);
     let body = table::next_at(rows, step, end);
-    da_condition(rows, names, ctx, i, step, body, end, test, da::state(out))
+    let e = da_rows::evaluate(rows, ctx.local, test, end, da::state(out));
+    match e {
+        Evaluated::Read(stop) => DaResult::Err(stop),
+        Evaluated::To(states) => da_rounds(
+            rows,
+            names,
+            ctx,
+            i,
+            step,
+            body,
+            end,
+            states.after,
+            states.when_true,
+        ),
+    }
 }
 
 fn da_while(
@@ -336,7 +318,21 @@ fn da_while(
     ensures { λ r. ⌜ r ≡ whileAt (untimed ctx (now (names .entry))) (now (rows .entry)) i end assigned ⌝ }
 {
     let body = table::next_at(rows, i + 1, end);
-    da_condition(rows, names, ctx, i, body, body, end, i + 1, assigned)
+    let e = da_rows::evaluate(rows, ctx.local, i + 1, end, assigned);
+    match e {
+        Evaluated::Read(stop) => DaResult::Err(stop),
+        Evaluated::To(states) => da_rounds(
+            rows,
+            names,
+            ctx,
+            i,
+            body,
+            body,
+            end,
+            states.after,
+            states.when_true,
+        ),
+    }
 }
 
 // A repeat: its count is evaluated once, and tells nothing of a round.

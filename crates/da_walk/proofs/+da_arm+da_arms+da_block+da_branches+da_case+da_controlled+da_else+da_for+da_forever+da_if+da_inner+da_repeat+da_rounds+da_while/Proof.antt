@@ -10,49 +10,46 @@ use borrow.Fn.Kinds.{In}
 use borrow.Fn.PlainCycle.{Measures, is, falls, and}
 use Rattle.da_walk.proofs.da_arm.Reads as da-arm
 use Rattle.da_walk.proofs.da_arm.Kinds as da-arm-kinds
-use Rattle.da_walk.proofs.+da_arm+da_arms+da_block+da_branches+da_case+da_condition+da_controlled+da_else+da_for+da_forever+da_if+da_inner+da_repeat+da_rounds+da_while.Lts-da_arm as da-arm-lts
+use Rattle.da_walk.proofs.+da_arm+da_arms+da_block+da_branches+da_case+da_controlled+da_else+da_for+da_forever+da_if+da_inner+da_repeat+da_rounds+da_while.Lts-da_arm as da-arm-lts
 use Rattle.da_walk.proofs.da_arms.Reads as da-arms
 use Rattle.da_walk.proofs.da_arms.Kinds as da-arms-kinds
-use Rattle.da_walk.proofs.+da_arm+da_arms+da_block+da_branches+da_case+da_condition+da_controlled+da_else+da_for+da_forever+da_if+da_inner+da_repeat+da_rounds+da_while.Lts-da_arms as da-arms-lts
+use Rattle.da_walk.proofs.+da_arm+da_arms+da_block+da_branches+da_case+da_controlled+da_else+da_for+da_forever+da_if+da_inner+da_repeat+da_rounds+da_while.Lts-da_arms as da-arms-lts
 use Rattle.da_walk.proofs.da_block.Reads as da-block
 use Rattle.da_walk.proofs.da_block.Kinds as da-block-kinds
-use Rattle.da_walk.proofs.+da_arm+da_arms+da_block+da_branches+da_case+da_condition+da_controlled+da_else+da_for+da_forever+da_if+da_inner+da_repeat+da_rounds+da_while.Lts-da_block as da-block-lts
+use Rattle.da_walk.proofs.+da_arm+da_arms+da_block+da_branches+da_case+da_controlled+da_else+da_for+da_forever+da_if+da_inner+da_repeat+da_rounds+da_while.Lts-da_block as da-block-lts
 use Rattle.da_walk.proofs.da_branches.Reads as da-branches
 use Rattle.da_walk.proofs.da_branches.Kinds as da-branches-kinds
-use Rattle.da_walk.proofs.+da_arm+da_arms+da_block+da_branches+da_case+da_condition+da_controlled+da_else+da_for+da_forever+da_if+da_inner+da_repeat+da_rounds+da_while.Lts-da_branches as da-branches-lts
+use Rattle.da_walk.proofs.+da_arm+da_arms+da_block+da_branches+da_case+da_controlled+da_else+da_for+da_forever+da_if+da_inner+da_repeat+da_rounds+da_while.Lts-da_branches as da-branches-lts
 use Rattle.da_walk.proofs.da_case.Reads as da-case
 use Rattle.da_walk.proofs.da_case.Kinds as da-case-kinds
-use Rattle.da_walk.proofs.+da_arm+da_arms+da_block+da_branches+da_case+da_condition+da_controlled+da_else+da_for+da_forever+da_if+da_inner+da_repeat+da_rounds+da_while.Lts-da_case as da-case-lts
-use Rattle.da_walk.proofs.da_condition.Reads as da-condition
-use Rattle.da_walk.proofs.da_condition.Kinds as da-condition-kinds
-use Rattle.da_walk.proofs.+da_arm+da_arms+da_block+da_branches+da_case+da_condition+da_controlled+da_else+da_for+da_forever+da_if+da_inner+da_repeat+da_rounds+da_while.Lts-da_condition as da-condition-lts
+use Rattle.da_walk.proofs.+da_arm+da_arms+da_block+da_branches+da_case+da_controlled+da_else+da_for+da_forever+da_if+da_inner+da_repeat+da_rounds+da_while.Lts-da_case as da-case-lts
 use Rattle.da_walk.proofs.da_controlled.Reads as da-controlled
 use Rattle.da_walk.proofs.da_controlled.Kinds as da-controlled-kinds
-use Rattle.da_walk.proofs.+da_arm+da_arms+da_block+da_branches+da_case+da_condition+da_controlled+da_else+da_for+da_forever+da_if+da_inner+da_repeat+da_rounds+da_while.Lts-da_controlled as da-controlled-lts
+use Rattle.da_walk.proofs.+da_arm+da_arms+da_block+da_branches+da_case+da_controlled+da_else+da_for+da_forever+da_if+da_inner+da_repeat+da_rounds+da_while.Lts-da_controlled as da-controlled-lts
 use Rattle.da_walk.proofs.da_else.Reads as da-else
 use Rattle.da_walk.proofs.da_else.Kinds as da-else-kinds
-use Rattle.da_walk.proofs.+da_arm+da_arms+da_block+da_branches+da_case+da_condition+da_controlled+da_else+da_for+da_forever+da_if+da_inner+da_repeat+da_rounds+da_while.Lts-da_else as da-else-lts
+use Rattle.da_walk.proofs.+da_arm+da_arms+da_block+da_branches+da_case+da_controlled+da_else+da_for+da_forever+da_if+da_inner+da_repeat+da_rounds+da_while.Lts-da_else as da-else-lts
 use Rattle.da_walk.proofs.da_for.Reads as da-for
 use Rattle.da_walk.proofs.da_for.Kinds as da-for-kinds
-use Rattle.da_walk.proofs.+da_arm+da_arms+da_block+da_branches+da_case+da_condition+da_controlled+da_else+da_for+da_forever+da_if+da_inner+da_repeat+da_rounds+da_while.Lts-da_for as da-for-lts
+use Rattle.da_walk.proofs.+da_arm+da_arms+da_block+da_branches+da_case+da_controlled+da_else+da_for+da_forever+da_if+da_inner+da_repeat+da_rounds+da_while.Lts-da_for as da-for-lts
 use Rattle.da_walk.proofs.da_forever.Reads as da-forever
 use Rattle.da_walk.proofs.da_forever.Kinds as da-forever-kinds
-use Rattle.da_walk.proofs.+da_arm+da_arms+da_block+da_branches+da_case+da_condition+da_controlled+da_else+da_for+da_forever+da_if+da_inner+da_repeat+da_rounds+da_while.Lts-da_forever as da-forever-lts
+use Rattle.da_walk.proofs.+da_arm+da_arms+da_block+da_branches+da_case+da_controlled+da_else+da_for+da_forever+da_if+da_inner+da_repeat+da_rounds+da_while.Lts-da_forever as da-forever-lts
 use Rattle.da_walk.proofs.da_if.Reads as da-if
 use Rattle.da_walk.proofs.da_if.Kinds as da-if-kinds
-use Rattle.da_walk.proofs.+da_arm+da_arms+da_block+da_branches+da_case+da_condition+da_controlled+da_else+da_for+da_forever+da_if+da_inner+da_repeat+da_rounds+da_while.Lts-da_if as da-if-lts
+use Rattle.da_walk.proofs.+da_arm+da_arms+da_block+da_branches+da_case+da_controlled+da_else+da_for+da_forever+da_if+da_inner+da_repeat+da_rounds+da_while.Lts-da_if as da-if-lts
 use Rattle.da_walk.proofs.da_inner.Reads as da-inner
 use Rattle.da_walk.proofs.da_inner.Kinds as da-inner-kinds
-use Rattle.da_walk.proofs.+da_arm+da_arms+da_block+da_branches+da_case+da_condition+da_controlled+da_else+da_for+da_forever+da_if+da_inner+da_repeat+da_rounds+da_while.Lts-da_inner as da-inner-lts
+use Rattle.da_walk.proofs.+da_arm+da_arms+da_block+da_branches+da_case+da_controlled+da_else+da_for+da_forever+da_if+da_inner+da_repeat+da_rounds+da_while.Lts-da_inner as da-inner-lts
 use Rattle.da_walk.proofs.da_repeat.Reads as da-repeat
 use Rattle.da_walk.proofs.da_repeat.Kinds as da-repeat-kinds
-use Rattle.da_walk.proofs.+da_arm+da_arms+da_block+da_branches+da_case+da_condition+da_controlled+da_else+da_for+da_forever+da_if+da_inner+da_repeat+da_rounds+da_while.Lts-da_repeat as da-repeat-lts
+use Rattle.da_walk.proofs.+da_arm+da_arms+da_block+da_branches+da_case+da_controlled+da_else+da_for+da_forever+da_if+da_inner+da_repeat+da_rounds+da_while.Lts-da_repeat as da-repeat-lts
 use Rattle.da_walk.proofs.da_rounds.Reads as da-rounds
 use Rattle.da_walk.proofs.da_rounds.Kinds as da-rounds-kinds
-use Rattle.da_walk.proofs.+da_arm+da_arms+da_block+da_branches+da_case+da_condition+da_controlled+da_else+da_for+da_forever+da_if+da_inner+da_repeat+da_rounds+da_while.Lts-da_rounds as da-rounds-lts
+use Rattle.da_walk.proofs.+da_arm+da_arms+da_block+da_branches+da_case+da_controlled+da_else+da_for+da_forever+da_if+da_inner+da_repeat+da_rounds+da_while.Lts-da_rounds as da-rounds-lts
 use Rattle.da_walk.proofs.da_while.Reads as da-while
 use Rattle.da_walk.proofs.da_while.Kinds as da-while-kinds
-use Rattle.da_walk.proofs.+da_arm+da_arms+da_block+da_branches+da_case+da_condition+da_controlled+da_else+da_for+da_forever+da_if+da_inner+da_repeat+da_rounds+da_while.Lts-da_while as da-while-lts
+use Rattle.da_walk.proofs.+da_arm+da_arms+da_block+da_branches+da_case+da_controlled+da_else+da_for+da_forever+da_if+da_inner+da_repeat+da_rounds+da_while.Lts-da_while as da-while-lts
 use Rattle.da.proofs.merge.Reads as merge-reads
 use Rattle.da.proofs.state.Reads as state-reads
 use Rattle.da_leaf.proofs.construct_of.Reads as construct-of-reads
@@ -68,10 +65,10 @@ use Rattle.kinds.proofs.stmt_class.Reads as stmt-class-reads
 use Rattle.table.proofs.kind_at.Reads as kind-at-reads
 use Rattle.table.proofs.next_at.Reads as next-at-reads
 use Rattle.table.proofs.row_end.Reads as row-end-reads
-use Rattle.da_walk.proofs.+da_arm+da_arms+da_block+da_branches+da_case+da_condition+da_controlled+da_else+da_for+da_forever+da_if+da_inner+da_repeat+da_rounds+da_while.{
+use Rattle.da_walk.proofs.+da_arm+da_arms+da_block+da_branches+da_case+da_controlled+da_else+da_for+da_forever+da_if+da_inner+da_repeat+da_rounds+da_while.{
   statement,
 }
-use Rattle.da_walk.proofs.+da_arm+da_arms+da_block+da_branches+da_case+da_condition+da_controlled+da_else+da_for+da_forever+da_if+da_inner+da_repeat+da_rounds+da_while.Tie.{
+use Rattle.da_walk.proofs.+da_arm+da_arms+da_block+da_branches+da_case+da_controlled+da_else+da_for+da_forever+da_if+da_inner+da_repeat+da_rounds+da_while.Tie.{
   close,
 }
 
@@ -89,9 +86,6 @@ abbrev μ-da-branches : Measures 2 da-branches-kinds.ps ℕ
 
 abbrev μ-da-case : Measures 2 da-case-kinds.ps ℕ
 μ-da-case κs a = 5 * (a .1 .1 .1 .1 .0 - a .1 .1 .1 .0) + 7
-
-abbrev μ-da-condition : Measures 2 da-condition-kinds.ps ℕ
-μ-da-condition κs a = 5 * (a .1 .1 .1 .1 .1 .1 .0 - a .1 .1 .1 .0) + 2
 
 abbrev μ-da-controlled : Measures 2 da-controlled-kinds.ps ℕ
 μ-da-controlled κs a = 5 * (a .1 .1 .1 .1 .1 .0 - a .1 .1 .1 .1 .0) + 3
@@ -152,18 +146,6 @@ da-case-at t = and 2 da-case-kinds.ps (is 2 da-case-kinds.ps μ-da-case t) da-ca
 
 abbrev da-case-below : ℕ → In 2 da-case-kinds.ps
 da-case-below t = and 2 da-case-kinds.ps (falls 2 da-case-kinds.ps _<_ μ-da-case t) da-case.Pre
-
-abbrev da-condition-at : ℕ → In 2 da-condition-kinds.ps
-da-condition-at t =
-    and 2 da-condition-kinds.ps (is 2 da-condition-kinds.ps μ-da-condition t) da-condition.Pre
-
-abbrev da-condition-below : ℕ → In 2 da-condition-kinds.ps
-da-condition-below t =
-    and
-    2
-    da-condition-kinds.ps
-    (falls 2 da-condition-kinds.ps _<_ μ-da-condition t)
-    da-condition.Pre
 
 abbrev da-controlled-at : ℕ → In 2 da-controlled-kinds.ps
 da-controlled-at t =
@@ -258,9 +240,6 @@ da-branches-calls t = (da-inner-below t, da-inner.Post, next-at-reads.Asked, nex
 abbrev da-case-calls : ℕ → da-case-lts.Claims
 da-case-calls t = (evaluate-reads.Asked, evaluate-reads.Learnt, next-at-reads.Asked, next-at-reads.Learnt, da-arms-below t, da-arms.Post)
 
-abbrev da-condition-calls : ℕ → da-condition-lts.Claims
-da-condition-calls t = (evaluate-reads.Asked, evaluate-reads.Learnt, da-rounds-below t, da-rounds.Post)
-
 abbrev da-controlled-calls : ℕ → da-controlled-lts.Claims
 da-controlled-calls t = (da-leaf-reads.Asked, da-leaf-reads.Learnt, next-at-reads.Asked, next-at-reads.Learnt, da-inner-below t, da-inner.Post)
 
@@ -268,7 +247,7 @@ abbrev da-else-calls : ℕ → da-else-lts.Claims
 da-else-calls t = (is-absent-reads.Asked, is-absent-reads.Learnt, da-inner-below t, da-inner.Post)
 
 abbrev da-for-calls : ℕ → da-for-lts.Claims
-da-for-calls t = (da-inner-below t, da-inner.Post, next-at-reads.Asked, next-at-reads.Learnt, state-reads.Asked, state-reads.Learnt, da-condition-below t, da-condition.Post)
+da-for-calls t = (da-inner-below t, da-inner.Post, next-at-reads.Asked, next-at-reads.Learnt, state-reads.Asked, state-reads.Learnt, evaluate-reads.Asked, evaluate-reads.Learnt, da-rounds-below t, da-rounds.Post)
 
 abbrev da-forever-calls : ℕ → da-forever-lts.Claims
 da-forever-calls t = (da-rounds-below t, da-rounds.Post)
@@ -310,18 +289,17 @@ abbrev da-rounds-calls : ℕ → da-rounds-lts.Claims
 da-rounds-calls t = (da-inner-below t, da-inner.Post, rounds-write-reads.Asked, rounds-write-reads.Learnt)
 
 abbrev da-while-calls : ℕ → da-while-lts.Claims
-da-while-calls t = (next-at-reads.Asked, next-at-reads.Learnt, da-condition-below t, da-condition.Post)
+da-while-calls t = (next-at-reads.Asked, next-at-reads.Learnt, evaluate-reads.Asked, evaluate-reads.Learnt, da-rounds-below t, da-rounds.Post)
 
-pub +da-arm+da-arms+da-block+da-branches+da-case+da-condition+da-controlled+da-else+da-for+da-forever+da-if+da-inner+da-repeat+da-rounds+da-while-spec :
+pub +da-arm+da-arms+da-block+da-branches+da-case+da-controlled+da-else+da-for+da-forever+da-if+da-inner+da-repeat+da-rounds+da-while-spec :
     {M : Type 1} → statement M
-+da-arm+da-arms+da-block+da-branches+da-case+da-condition+da-controlled+da-else+da-for+da-forever+da-if+da-inner+da-repeat+da-rounds+da-while-spec =
++da-arm+da-arms+da-block+da-branches+da-case+da-controlled+da-else+da-for+da-forever+da-if+da-inner+da-repeat+da-rounds+da-while-spec =
     close
     μ-da-arm
     μ-da-arms
     μ-da-block
     μ-da-branches
     μ-da-case
-    μ-da-condition
     μ-da-controlled
     μ-da-else
     μ-da-for
@@ -399,15 +377,6 @@ pub +da-arm+da-arms+da-block+da-branches+da-case+da-condition+da-controlled+da-e
     (λ c κs. search needs)
     (λ c. search branching)
     (λ c. search branching))
-    (λ t. da-condition-lts.spec (da-condition-calls t)
-    (da-condition-at t)
-    da-condition.Post
-    (λ c κs. search needs)
-    (λ c. search needs)
-    (λ c. search needs)
-    (λ c κs. search needs)
-    (λ c. search looping)
-    (λ c. search looping))
     (λ t. da-controlled-lts.spec (da-controlled-calls t)
     (da-controlled-at t)
     da-controlled.Post
@@ -439,7 +408,11 @@ pub +da-arm+da-arms+da-block+da-branches+da-case+da-condition+da-controlled+da-e
     (λ c κs. search needs)
     (λ c κs. search needs)
     (λ c κs. search needs)
+    (λ c κs. search needs)
+    (λ c. search needs)
+    (λ c. search needs)
     (λ c κs. search (needs, looping))
+    (λ c. search looping)
     (λ c. search looping))
     (λ t. da-forever-lts.spec
     (da-forever-calls t)
@@ -533,5 +506,9 @@ pub +da-arm+da-arms+da-block+da-branches+da-case+da-condition+da-controlled+da-e
     (λ c. search needs)
     (λ c κs. search needs)
     (λ c. search needs)
+    (λ c κs. search needs)
+    (λ c. search needs)
+    (λ c. search needs)
     (λ c κs. search (needs, looping))
+    (λ c. search looping)
     (λ c. search looping)
