@@ -15,6 +15,7 @@ use Rattle.checks.specs.declared.Checked.the-variants as C
 use Rattle.checks.specs.Checks.{fieldsOf, childrenOf}
 use Rattle.checks.proofs.Rows.{both-pass}
 use Rattle.checks.proofs.Passed.{children-passed}
+use Rattle.one_pass.specs.Right.{PassesAll}
 use Rattle.sheet_record.specs.declared.Record.{Record}
 use Rattle.sheet_record.specs.Records.{recordFits, marksOf, recordHeld, marksFit}
 use Rattle.sheet.specs.declared.Refusal.the-variants.{WrongRecord, WrongTable}
@@ -29,6 +30,10 @@ use Rattle.answers.specs.declared.Answer.the-variants.{Refused}
 use Rattle.ask.specs.Ask.{tableChecked, walked, walkAnswer, tableAnswer, askOf}
 
 -- table_checked
+pub passes-at-once : (r : Record) (rows : List ℕ) (b : Bool) → PassesAll rows (r .rows) (r .names) b → b ≡ true → C.Passed ≡ tableChecked r rows
+unfolding tableChecked
+passes-at-once r rows b w e = rw (w .fields e, w .children e)
+
 module _ (r : Record) (rows : List ℕ) (c : Checked) (e : c ≡ fieldsOf rows (r .rows) (r .names)) where
   pub fields-refused : (fault : Fault) (row : ℕ) → c ≡ C.Refused fault row → c ≡ tableChecked r rows
   unfolding tableChecked
@@ -72,7 +77,7 @@ module _ (r : Record) (rows names : List ℕ) (d : Checked) (v : d ≡ tableChec
   pub table-walked : (a : Answer) → d ≡ C.Passed → a ≡ walkAnswer (walked r rows names) → a ≡ tableAnswer r rows names
   table-walked a q w = w ∙ rw (← v, q)
 
-pub ruleset checking = (needs, fields-refused, fields-passed, answers-stop, answers-out, table-statement, walk-is, table-passed, table-refused, table-walked)
+pub ruleset checking = (needs, passes-at-once, fields-refused, fields-passed, answers-stop, answers-out, table-statement, walk-is, table-passed, table-refused, table-walked)
 
 -- ask
 module _ (r : Record) (rows names : List ℕ) (b : Bool) (e : b ≡ recordHeld r (length rows) (length names)) where

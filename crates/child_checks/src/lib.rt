@@ -10,7 +10,7 @@ ghost use Rattle.kinds.specs.Numbers.{itemsNumber};
 ghost use Rattle.checks.specs.Checks.{firstFrom, childrenFit, childrenAt, childrenOf};
 
 // Whether each item left may stand any number of times, none included.
-fn all_repeat(items: usize) -> bool
+pub fn all_repeat(items: usize) -> bool
     ensures { λ r. ⌜ ((left : List Item) → items ≡ itemsNumber left → r ≡ fits left []) ⌝ }
 {
     let mut left = items;

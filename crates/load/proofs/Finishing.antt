@@ -1,6 +1,7 @@
 -- What follows good lines, and a refused load.
 use Prim.Native.Nat.{ℕ, _-_, _*_, _≤_, _<_}
 use mathlib.Core.Path.{_≡_, refl, sym, ap, _∙_}
+use mathlib.Core.Bool.{Bool, true}
 use mathlib.Core.List.{List, _++_}
 use native.Mathlib.Omega.{arith}
 use lib.ListN.{length, take, replicate}
@@ -11,6 +12,7 @@ use Rattle.checks.specs.declared.Checked.{Checked}
 use Rattle.checks.specs.declared.Checked.the-variants as C
 use Rattle.checks.specs.Checks.{childrenOf}
 use Rattle.checks.proofs.Places.{children-row}
+use Rattle.one_pass.specs.Right.{PassesAll}
 use Rattle.sheet_record.specs.declared.Record.{Record}
 use Rattle.sheet.specs.declared.Refusal.{Refusal}
 use Rattle.sheet.specs.declared.Refusal.the-variants.{NoRoom, Rows}
@@ -71,7 +73,12 @@ module _ (r : Record) (rows names : List ℕ) where
         good : (x : Record) → a ≡ Done x → finishFronts r rows names ≡ record { answer = Done x; rows = newRows; names = newNames }
         good x e = whole ∙ ap (λ (z : Loaded). withTables (length rows) (length names) z newRows newNames) e
 
--- the checks
+-- the checks, at once
+pub check-at-once : (r : Record) (rows : List ℕ) (b : Bool) → PassesAll rows (r .rows) (r .names) b → b ≡ true → Done r ≡ checkedAnswer r rows
+unfolding checkedAnswer
+check-at-once r rows b w e = rw (w .children e)
+
+-- or one by one
 module _ (r : Record) (rows : List ℕ) (c : Checked) (s : c ≡ childrenOf rows (r .rows)) where
   pub check-passed : c ≡ C.Passed → Done r ≡ checkedAnswer r rows
   unfolding checkedAnswer
@@ -81,4 +88,4 @@ module _ (r : Record) (rows : List ℕ) (c : Checked) (s : c ≡ childrenOf rows
   unfolding checkedAnswer
   check-refused fault row e line l = rw (← s, e, l)
 
-pub ruleset answers = (refused-filled, rows-short, names-short, has-room, settle-answer, settle-tables, check-passed, check-refused, children-row)
+pub ruleset answers = (refused-filled, rows-short, names-short, has-room, settle-answer, settle-tables, check-at-once, check-passed, check-refused, children-row)

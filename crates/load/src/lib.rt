@@ -28,11 +28,14 @@ fn clear_from(t: &mut [u32], at: usize)
     clear(&mut t[at..]);
 }
 
-// The checks of the rows: refusals 7 to 9.
+// The checks of the rows: refusals 7 to 9. One pass tells of most tables that they pass.
 fn checked_answer(record: Record, rows: &[u32]) -> Loaded
     requires { ⌜ «record» .names ≤ 500 ⌝ }
     ensures { λ r. ⌜ r ≡ checkedAnswer «record» (now (rows .entry)) ⌝ }
 {
+    if one_pass::passes(rows, record.rows, record.names) {
+        return Loaded::Done(record);
+    }
     let checked = child_checks::children(rows, record.rows);
     match checked {
         Checked::Passed => Loaded::Done(record),

@@ -8,6 +8,8 @@ table-checked-spec =
     tie.close
     (tie.spec
     (λ c κs. search needs)
+    (λ c. search checking)
+    (λ c κs. search needs)
     (λ c. search needs)
     (λ c. search needs)
     (λ c. search checking)

@@ -10,6 +10,8 @@ checked-answer-spec =
     (tie.spec
     (λ c κs. search needs)
     (λ c. search answers)
+    (λ c κs. search needs)
+    (λ c. search answers)
     (λ c. search needs)
     (λ c κs. search (children-row, needs))
     (λ c. search answers)

@@ -1,0 +1,5 @@
+pub mod Taking
+pub mod Front
+pub mod Stepping
+pub mod Passing
+pub mod Whole
