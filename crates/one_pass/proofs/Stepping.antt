@@ -23,8 +23,7 @@ step-unfit rows names row to items inner = record {
 }
 
 module _ (rows : List ℕ) (names row to items : ℕ) (k : Kind) (g : Given rows row to k) (side : ℕ) (b : Bool) (s : side ≡ sideAt rows row) (q : b ≡ sideBelow (k .sides) names side) (y : not b ≡ false)
-  (kind : ℕ) (e : kind ≡ kindAt rows row) (next : Next) (a : AfterChild items kind next) (left : ℕ) (n : next ≡ N.Left left) (end : ℕ) (v : end ≡ endAt rows row) where
-
+    (kind : ℕ) (e : kind ≡ kindAt rows row) (next : Next) (a : AfterChild items kind next) (left : ℕ) (n : next ≡ N.Left left) (end : ℕ) (v : end ≡ endAt rows row) where
   front : (deep : ℕ) → row < end → Well rows names (row + 1) end (k .children) deep → Well rows names end to left (deep + 1) → Well rows names row to items (deep + 1)
   front deep l w o = well-front refl v l right (rw e at a) n (w .all) o
     where
