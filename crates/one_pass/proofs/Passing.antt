@@ -15,165 +15,180 @@ use Rattle.kinds.specs.Numbers.{numbers, itemsNumber}
 use Rattle.kinds.proofs.Below.{true-not-false}
 use Rattle.kinds.proofs.Numbers.{entry-sides, entry-items}
 use Rattle.checks.specs.Held.{Held}
+use Rattle.one_pass.specs.declared.Range.{Range}
 use Rattle.one_pass.specs.declared.Step.{Step}
-use Rattle.one_pass.specs.declared.Step.the-variants.{Leaf, Opens}
-use Rattle.one_pass.specs.Steps.{Given, Opened, StepTold}
+use Rattle.one_pass.specs.declared.Step.the-variants.{Leaf, Last, Opens}
+use Rattle.one_pass.specs.Steps.{Given, Lasts, Opened, StepTold}
 use Rattle.one_pass.specs.Right.{Well, WellTold}
 use Rattle.one_pass.proofs.Front.{well-none}
 
--- the ends that are kept: each is at least the next, which is within it
-unfoldable pub Kept : ℕ → List ℕ → ℕ → ℕ → Type 0
-Kept count ends zero to = to ≤ count
-Kept count ends (suc d) to = (to ≤ getD ends d 0) × Kept count ends d (getD ends d 0)
+abbrev pub none : Range
+none = record { to = 0; left = 0; depth = 0 }
 
-kept-within : (count : ℕ) (ends : List ℕ) (d to : ℕ) → Kept count ends d to → to ≤ count
-unfolding Kept
-kept-within count ends zero to k = k
-kept-within count ends (suc d) to k = omega (arith, k .0, kept-within count ends d (getD ends d 0) (k .1))
+-- a range that is kept, the one after so many, holds the rows up to p
+pub record Holds (count p n : ℕ) (k : Range) : Type 0 where
+  pub upto : p ≤ k .to
+  pub within : k .to ≤ count
+  pub deep : n < k .depth
+  pub shallow : k .depth ≤ 100
 
--- what is still to be shown: the rows from `row` on up to `to` are well, then those up to the end that is kept last, and so on
-unfoldable pub Needed : List ℕ → ℕ → List ℕ → List ℕ → ℕ → ℕ → ℕ → ℕ → Type 0
-Needed rows names ends lefts zero row to left = Unit {0}
-Needed rows names ends lefts (suc d) row to left =
-    Well rows names row to left (101 - suc d) × Needed rows names ends lefts d to (getD ends d 0) (getD lefts d 0)
+unfoldable pub Kept : ℕ → List Range → ℕ → ℕ → Type 0
+Kept count kept zero p = Unit {0}
+Kept count kept (suc n) p = Holds count p n (getD kept n none) × Kept count kept n (getD kept n none .to)
 
-module _ (rows : List ℕ) (names : ℕ) (ends lefts : List ℕ) where
-  -- of the innermost range more is shown
-  needed-more : (depth row to left later rest : ℕ) → 0 < depth → (Well rows names later to rest (101 - depth) → Well rows names row to left (101 - depth)) → Needed rows names ends lefts depth later to rest → Needed rows names ends lefts depth row to left
-  unfolding Needed
-  needed-more zero row to left later rest p f n = absurd (omega arith)
-  needed-more (suc d) row to left later rest p f n = (f (n .0), n .1)
+-- the rows from p up to the end of a range are well, as siblings for the items that are left
+abbrev pub Fine : List ℕ → ℕ → ℕ → Range → Type 0
+Fine rows names p k = Well rows names p (k .to) (k .left) (101 - k .depth)
 
-  -- only what is kept below the depth counts
-  module _ (ends′ lefts′ : List ℕ) where
-    needed-same : (depth row to left : ℕ) → ((k : ℕ) → k < depth → getD ends′ k 0 ≡ getD ends k 0) → ((k : ℕ) → k < depth → getD lefts′ k 0 ≡ getD lefts k 0) → Needed rows names ends′ lefts′ depth row to left → Needed rows names ends lefts depth row to left
-    unfolding Needed
-    needed-same zero row to left a b n = tt
-    needed-same (suc d) row to left a b n = (n .0, needed-same d to (getD ends d 0) (getD lefts d 0) (λ k h. a k (omega arith)) (λ k h. b k (omega arith)) (rw (a d (omega arith), b d (omega arith)) at (n .1)))
+-- what is still to be shown of the ranges that are kept: from p on the last of them, then the one before it from there on, and so on
+unfoldable pub Rest : List ℕ → ℕ → List Range → ℕ → ℕ → Type 0
+Rest rows names kept zero p = Unit {0}
+Rest rows names kept (suc n) p = Fine rows names p (getD kept n none) × Rest rows names kept n (getD kept n none .to)
 
-kept-same : (count : ℕ) (ends ends′ : List ℕ) (depth to : ℕ) → ((k : ℕ) → k < depth → getD ends′ k 0 ≡ getD ends k 0) → Kept count ends depth to → Kept count ends′ depth to
-unfolding Kept
-kept-same count ends ends′ zero to a k = k
-kept-same count ends ends′ (suc d) to a k = rw (a d (omega arith)) (k .0, kept-same count ends ends′ d (getD ends d 0) (λ j h. a j (omega arith)) (k .1))
+-- only the ranges that are kept count
+module _ (kept others : List Range) where
+  kept-same : (count n p : ℕ) → ((k : ℕ) → k < n → getD others k none ≡ getD kept k none) → Kept count kept n p → Kept count others n p
+  unfolding Kept
+  kept-same count zero p a k = tt
+  kept-same count (suc n) p a k = rw (a n (omega arith)) (k .0, kept-same count n (getD kept n none .to) (λ i h. a i (omega arith)) (k .1))
 
-pub record Passing (rows : List ℕ) (names count : ℕ) (ends lefts : List ℕ) (depth row to left : ℕ) : Type 0 where
-  pub few : depth ≤ 100
-  pub many-ends : length ends ≡ 100
-  pub many-lefts : length lefts ≡ 100
-  pub upto : row ≤ to
-  pub within : to ≤ count
-  pub kept : Kept count ends depth to
-  pub whole : Needed rows names ends lefts depth row to left → Well rows names 0 count 10251 100
+  rest-same : (rows : List ℕ) (names n p : ℕ) → ((k : ℕ) → k < n → getD others k none ≡ getD kept k none) → Rest rows names others n p → Rest rows names kept n p
+  unfolding Rest
+  rest-same rows names zero p a r = tt
+  rest-same rows names (suc n) p a r =
+      let z : getD others n none ≡ getD kept n none = a n (omega arith) in
+      (rw z at (r .0), rest-same rows names n (getD kept n none .to) (λ i h. a i (omega arith)) (rw z at (r .1)))
 
-pub passing-start : (rows : List ℕ) (names count : ℕ) (ends lefts : List ℕ) → length ends ≡ 100 → length lefts ≡ 100 → getD ends 0 0 ≡ count → Passing rows names count ends lefts 1 0 count 10251
-unfolding Kept Needed
-passing-start rows names count ends lefts a b e = record {
-  few = omega arith;
-  many-ends = a;
-  many-lefts = b;
+pub record Passing (rows : List ℕ) (names count : ℕ) (kept : List Range) (outer : ℕ) (at : Range) (row : ℕ) : Type 0 where
+  pub deep : outer < at .depth
+  pub shallow : at .depth ≤ 100
+  pub size : length kept ≡ 100
+  pub upto : row ≤ at .to
+  pub within : at .to ≤ count
+  pub outside : Kept count kept outer (at .to)
+  pub whole : Fine rows names row at → Rest rows names kept outer (at .to) → Well rows names 0 count 10251 100
+
+pub passing-start : (rows : List ℕ) (names count : ℕ) (kept : List Range) → length kept ≡ 100 → Passing rows names count kept 0 (record { to = count; left = 10251; depth = 1 }) 0
+unfolding Kept Rest
+passing-start rows names count kept e = record {
+  deep = omega arith;
+  shallow = omega arith;
+  size = e;
   upto = omega arith;
   within = omega arith;
-  kept = (omega arith, omega arith);
-  whole = λ n. n .0;
+  outside = tt;
+  whole = λ f r. f;
 }
-
-pub passing-done : (rows : List ℕ) (names count : ℕ) (ends lefts : List ℕ) (depth row to left : ℕ) → Passing rows names count ends lefts depth row to left → depth ≤ 0 → WellTold rows names count true
-unfolding Needed
-passing-done rows names count ends lefts depth row to left w h =
-    let z : depth ≡ 0 = omega arith in
-    let v : Passing rows names count ends lefts 0 row to left = rw z at w in
-    record { well = λ e. v .whole tt }
 
 pub passing-not : (rows : List ℕ) (names count : ℕ) → WellTold rows names count false
 passing-not rows names count = record { well = λ e. true-not-false (sym e) }
 
 -- the innermost range has no more rows
-module _ (rows : List ℕ) (names count : ℕ) (ends lefts : List ℕ) (row to left : ℕ) where
-  close : (d : ℕ) → Passing rows names count ends lefts (suc d) row to left → Held rows count → row ≡ to → ((full : List Item) → left ≡ itemsNumber full → fits full [] ≡ true) → Passing rows names count ends lefts d row (getD ends d 0) (getD lefts d 0)
-  unfolding Kept Needed
-  close d w h e t = record {
-    few = omega (arith, w .few);
-    many-ends = w .many-ends;
-    many-lefts = w .many-lefts;
-    upto = omega (arith, w .kept .0);
-    within = kept-within count ends d (getD ends d 0) (w .kept .1);
-    kept = w .kept .1;
-    whole = λ n. w .whole (well-none rows names row to left (101 - suc d) (omega (arith, h .room, w .within)) e t, rw e at n);
+module _ (rows : List ℕ) (names count : ℕ) (kept : List Range) (at : Range) (row : ℕ) where
+  ended : (outer : ℕ) → Passing rows names count kept outer at row → Held rows count → row ≡ at .to → ((full : List Item) → at .left ≡ itemsNumber full → fits full [] ≡ true) → Fine rows names row at
+  ended outer w h e t = well-none rows names row (at .to) (at .left) (101 - at .depth) (omega (arith, h .room, w .within)) e t
+
+  close : (n : ℕ) → Passing rows names count kept (suc n) at row → row ≡ at .to → Fine rows names row at → Passing rows names count kept n (getD kept n none) row
+  unfolding Kept Rest
+  close n w e f = record {
+    deep = w .outside .0 .deep;
+    shallow = w .outside .0 .shallow;
+    size = w .size;
+    upto = omega (arith, w .outside .0 .upto);
+    within = w .outside .0 .within;
+    outside = w .outside .1;
+    whole = λ g r. w .whole f (rw e at g, r);
   }
 
-  pub passing-close : (depth : ℕ) (r : Bool)
-      → Passing rows names count ends lefts depth row to left
-      → 0 < depth
-      → Held rows count
-      → row ≡ to
-      → ((full : List Item) → left ≡ itemsNumber full → r ≡ fits full [])
-      → not r ≡ false
-      → Passing rows names count ends lefts (depth - 1) row (getD ends (depth - 1) 0) (getD lefts (depth - 1) 0)
-  passing-close depth r w p h e t y =
-      let z : depth ≡ suc (depth - 1) = omega arith in
-      close (depth - 1) (subst (λ (n : ℕ). Passing rows names count ends lefts n row to left) z w) h e (λ full q. sym (t full q) ∙ not-false r y)
+  module _ (outer : ℕ) (r : Bool) (w : Passing rows names count kept outer at row) (h : Held rows count) (e : row ≡ at .to) (t : (full : List Item) → at .left ≡ itemsNumber full → r ≡ fits full []) (y : not r ≡ false) where
+    fine : Fine rows names row at
+    fine = ended outer w h e (λ full q. sym (t full q) ∙ not-false r y)
+
+    pub passing-close : (outer ≡ 0 → ⊥) → Passing rows names count kept (outer - 1) (getD kept (outer - 1) none) row
+    passing-close p =
+        let z : outer ≡ suc (outer - 1) = omega arith in
+        close (outer - 1) (subst (λ (n : ℕ). Passing rows names count kept n at row) z w) e fine
+
+    pub passing-done : outer ≡ 0 → WellTold rows names count true
+    unfolding Rest
+    passing-done z = let v : Passing rows names count kept 0 at row = rw z at w in record { well = λ x. v .whole fine tt }
 
 -- one row more
-module _ (rows : List ℕ) (names count : ℕ) (ends lefts : List ℕ) (depth row to left : ℕ) (w : Passing rows names count ends lefts depth row to left) (p : 0 < depth) (inner : ℕ) (step : Step) (t : StepTold rows names row to left inner step) where
+module _ (rows : List ℕ) (names count : ℕ) (kept : List Range) (outer : ℕ) (at : Range) (row : ℕ) (w : Passing rows names count kept outer at row) (inner : ℕ) (step : Step) (t : StepTold rows names row at inner step) where
+  z : 101 - at .depth ≡ (100 - at .depth) + 1
+  z = omega (arith, w .shallow)
+
   -- that holds none
-  pub passing-leaf : (after : ℕ) → (row ≡ to → ⊥) → step ≡ Leaf after → Passing rows names count ends lefts depth (row + 1) to after
-  passing-leaf after q s = record {
-    few = w .few;
-    many-ends = w .many-ends;
-    many-lefts = w .many-lefts;
+  pub passing-leaf : (left : ℕ) → (row ≡ at .to → ⊥) → step ≡ Leaf left → Passing rows names count kept outer (record { to = at .to; left = left; depth = at .depth }) (row + 1)
+  passing-leaf left q s = record {
+    deep = w .deep;
+    shallow = w .shallow;
+    size = w .size;
     upto = omega (arith, w .upto);
     within = w .within;
-    kept = w .kept;
-    whole = λ m. w .whole (needed-more rows names ends lefts depth row to left (row + 1) after p more m);
+    outside = w .outside;
+    whole = λ f. w .whole (rw z (t .leaf left s (100 - at .depth) (rw z at f)));
+  }
+
+  -- that is the last of its range and holds rows, which come next
+  pub passing-last : step ≡ Last → Passing rows names count kept outer (record { to = at .to; left = inner; depth = at .depth + 1 }) (row + 1)
+  passing-last s =
+      let o : Lasts rows names row at inner = t .last s in
+      let x : 101 - (at .depth + 1) ≡ 100 - at .depth = omega arith in
+      record {
+        deep = omega (arith, w .deep);
+        shallow = omega (arith, o .ends .shallow);
+        size = w .size;
+        upto = omega (arith, o .ends .after);
+        within = w .within;
+        outside = w .outside;
+        whole = λ f. w .whole (rw z (o .well (100 - at .depth) (rw x at f)));
+      }
+
+  -- that is not, and holds rows
+  pub passing-open : (left end : ℕ) → step ≡ Opens left end → Passing rows names count (set kept outer (record { to = at .to; left = left; depth = at .depth })) (outer + 1) (record { to = end; left = inner; depth = at .depth + 1 }) (row + 1)
+  unfolding Kept Rest
+  passing-open left end s = record {
+    deep = omega (arith, w .deep);
+    shallow = omega (arith, o .ends .shallow);
+    size = simp length-set (w .size);
+    upto = omega (arith, o .ends .after);
+    within = omega (arith, w .within, o .ends .within);
+    outside = rw (add-one outer, new) (record { upto = o .ends .within; within = w .within; deep = w .deep; shallow = w .shallow }, kept-same kept others count outer (at .to) same (w .outside));
+    whole = λ f r. opened f (rw (add-one outer) at r);
   }
     where
-      more : Well rows names (row + 1) to after (101 - depth) → Well rows names row to left (101 - depth)
-      more = let z : 101 - depth ≡ (100 - depth) + 1 = omega (arith, w .few) in rw z (t .leaf after s (100 - depth))
+      o : Opened rows names row at inner left end
+      o = t .opens left end s
 
-  -- that holds rows, which come next
-  pub passing-open : (after end : ℕ) → depth < 100 → step ≡ Opens after end → Passing rows names count (set ends depth to) (set lefts depth after) (depth + 1) (row + 1) end inner
-  unfolding Kept Needed
-  passing-open after end m s = record {
-    few = omega arith;
-    many-ends = simp length-set (w .many-ends);
-    many-lefts = simp length-set (w .many-lefts);
-    upto = omega (arith, o .after);
-    within = omega (arith, w .within, o .within);
-    kept = rw (add-one depth, new-end) (o .within, kept-same count ends (set ends depth to) depth to other-ends (w .kept));
-    whole = λ x. w .whole (opened (rw (add-one depth) at x));
-  }
-    where
-      o : Opened rows names row to left inner after end
-      o = t .opens after end s
+      range : Range
+      range = record { to = at .to; left = left; depth = at .depth }
 
-      new-end : getD (set ends depth to) depth 0 ≡ to
-      new-end = getD-set-same ends depth to 0 (omega (arith, w .many-ends))
+      others : List Range
+      others = set kept outer range
 
-      new-left : getD (set lefts depth after) depth 0 ≡ after
-      new-left = getD-set-same lefts depth after 0 (omega (arith, w .many-lefts))
+      new : getD others outer none ≡ range
+      new = getD-set-same kept outer range none (omega (arith, w .size, w .deep, w .shallow))
 
-      other-ends : (i : ℕ) → i < depth → getD (set ends depth to) i 0 ≡ getD ends i 0
-      other-ends i l = getD-set-other ends depth i to 0 (λ z. omega arith)
+      same : (i : ℕ) → i < outer → getD others i none ≡ getD kept i none
+      same i l = getD-set-other kept outer i range none (λ e. omega arith)
 
-      other-lefts : (i : ℕ) → i < depth → getD (set lefts depth after) i 0 ≡ getD lefts i 0
-      other-lefts i l = getD-set-other lefts depth i after 0 (λ z. omega arith)
-
-      opened : Needed rows names (set ends depth to) (set lefts depth after) (suc depth) (row + 1) end inner → Needed rows names ends lefts depth row to left
-      opened x =
-          let z : 101 - depth ≡ (101 - suc depth) + 1 = omega arith in
-          needed-more rows names ends lefts depth row to left end after p (rw z (o .well (101 - suc depth) (x .0)))
-          (needed-same rows names ends lefts (set ends depth to) (set lefts depth after) depth end to after other-ends other-lefts (rw (new-end, new-left) at (x .1)))
+      opened : Well rows names (row + 1) end inner (101 - (at .depth + 1)) → Rest rows names others (suc outer) end → Well rows names 0 count 10251 100
+      opened f r =
+          let x : 101 - (at .depth + 1) ≡ 100 - at .depth = omega (arith, o .ends .shallow) in
+          let g : Fine rows names end range × Rest rows names others outer (at .to) = rw new at r in
+          w .whole (rw z (o .well (100 - at .depth) (rw x at f) (rw z at (g .0)))) (rest-same kept others rows names outer (at .to) same (g .1))
 
 -- the entry of a row's kind
-pub given-row : (rows : List ℕ) (names count : ℕ) (ends lefts : List ℕ) (depth row to left : ℕ) (entries : List Kind) (d : Kind) (k : ℕ)
-    → Passing rows names count ends lefts depth row to left
+pub given-row : (rows : List ℕ) (names count : ℕ) (kept : List Range) (outer : ℕ) (at : Range) (row : ℕ) (entries : List Kind) (d : Kind) (k : ℕ)
+    → Passing rows names count kept outer at row
     → Held rows count
-    → (row ≡ to → ⊥)
+    → (row ≡ at .to → ⊥)
     → k ≡ kindAt rows row
     → k < 66
     → entries ≡ map numbers kinds
-    → Given rows row to (getD entries k d)
-given-row rows names count ends lefts depth row to left entries d k w h q e u t = record {
+    → Given rows row at (getD entries k d)
+given-row rows names count kept outer at row entries d k w h q e u t = record {
   below = omega (arith, w .upto);
   room = omega (arith, w .within, h .room);
   known = rw (← e) u;
@@ -181,5 +196,4 @@ given-row rows names count ends lefts depth row to left entries d k w h q e u t 
   items = rw (← e) (entry-items entries k d t u);
 }
 
--- (`passing-open` is left out: beside it a search meets its limit)
-pub ruleset passing = (passing-start, passing-done, passing-not, passing-close, passing-leaf, given-row)
+pub ruleset passing = (passing-start, passing-done, passing-not, passing-close, passing-leaf, passing-last, passing-open, given-row)

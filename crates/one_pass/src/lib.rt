@@ -4,7 +4,7 @@ use kinds::Kind;
 ghost use mathlib.Core.Path.{_≡_};
 ghost use Rattle.checks.specs.Held.{Held};
 ghost use Rattle.one_pass.specs.Right.{WellTold, PassesAll};
-ghost use Rattle.one_pass.specs.Steps.{AfterChild, Given, StepTold};
+ghost use Rattle.one_pass.specs.Steps.{AfterChild, Given, InnerTold, StepTold};
 
 // What is left of a kind's items once a child is taken.
 enum Next {
@@ -12,9 +12,18 @@ enum Next {
     Unfit,
 }
 
-// What a row leaves: the items left after a row that holds none; the same with the end of a row that holds some.
+// The rows that a row holds, or all of a table's: where they end, the items that are left for those not looked at, and how deep they stand.
+struct Range {
+    to: usize,
+    left: usize,
+    depth: usize,
+}
+
+// What a row leaves: after a row that holds none, the items that are left; nothing after the last row of its range, where it holds rows;
+// after any other that holds rows, the items that are left, and its end.
 enum Step {
     Leaf(usize),
+    Last,
     Opens(usize, usize),
     Unfit,
 }
@@ -36,80 +45,108 @@ fn after_child(items: usize, kind: usize) -> Next
     Next::Left(kinds::after_first(left))
 }
 
-// Row `row`, one of the rows up to `to` with these items left: the items that are then left for the next, and its end where it holds rows.
-fn row_step(rows: &[u32], row: usize, to: usize, items: usize, entry: Kind, names: usize) -> Step
-    requires { ⌜ Given (now rows) row to entry ⌝ }
-    ensures { λ r. ⌜ StepTold (now (rows .entry)) names row to items (entry .children) r ⌝ }
+// What a row that holds rows leaves, with the items that are left after it.
+fn inner_step(row: usize, end: usize, at: Range, left: usize) -> Step
+    ensures { λ r. ⌜ InnerTold row end at left r ⌝ }
 {
-    if !kinds::side_fits(entry, table::side_at(rows, row), names) {
+    if 100 <= at.depth {
         return Step::Unfit;
-    }
-    let next = after_child(items, table::kind_at(rows, row));
-    let Next::Left(left) = next else {
-        return Step::Unfit;
-    };
-    let end = table::end_at(rows, row);
-    if end == row + 1 {
-        if !child_checks::all_repeat(entry.children) {
-            return Step::Unfit;
-        }
-        return Step::Leaf(left);
     }
     if end <= row {
         return Step::Unfit;
     }
-    if to < end {
+    if at.to < end {
         return Step::Unfit;
     }
-    Step::Opens(left, end)
+    if end < at.to {
+        return Step::Opens(left, end);
+    }
+    if !child_checks::all_repeat(left) {
+        return Step::Unfit;
+    }
+    Step::Last
 }
 
-// Whether row 0 is a statement that holds all the rows, and every row passes. The rows up to `to` are those of the innermost
-// row that is not ended, with the items that are left for them; `ends` and `lefts` keep the same of the rows that it stands in.
+// What a row leaves that is one of a range.
+fn row_step(rows: &[u32], row: usize, at: Range, entry: Kind, names: usize) -> Step
+    requires { ⌜ Given (now rows) row at entry ⌝ }
+    ensures { λ r. ⌜ StepTold (now (rows .entry)) names row at (entry .children) r ⌝ }
+{
+    if !kinds::side_fits(entry, table::side_at(rows, row), names) {
+        return Step::Unfit;
+    }
+    let next = after_child(at.left, table::kind_at(rows, row));
+    let Next::Left(left) = next else {
+        return Step::Unfit;
+    };
+    let end = table::end_at(rows, row);
+    if end != row + 1 {
+        return inner_step(row, end, at, left);
+    }
+    if !child_checks::all_repeat(entry.children) {
+        return Step::Unfit;
+    }
+    Step::Leaf(left)
+}
+
+// Whether row 0 is a statement that holds all the rows, and every row passes. `at` is the innermost range that has not ended, and
+// `kept` holds those that it stands in and that have rows after it.
 fn rows_pass(rows: &[u32], count: usize, names: usize) -> bool
     requires { ⌜ Held (now rows) count ⌝ }
     ensures { λ r. ⌜ WellTold (now (rows .entry)) names count r ⌝ }
 {
     let entries = kinds::kinds();
-    let mut ends = [count; 100];
-    let mut lefts = [0usize; 100];
-    let mut depth = 1;
+    let mut kept = [Range {
+        to: 0,
+        left: 0,
+        depth: 0,
+    }; 100];
+    let mut outer = 0;
+    let mut at = Range {
+        to: count,
+        left: ONE_STATEMENT,
+        depth: 1,
+    };
     let mut row = 0;
-    let mut to = count;
-    let mut left = ONE_STATEMENT;
-    while 0 < depth {
-        if row == to {
-            if !child_checks::all_repeat(left) {
+    loop {
+        if row == at.to {
+            if !child_checks::all_repeat(at.left) {
                 return false;
             }
-            depth -= 1;
-            to = ends[depth];
-            left = lefts[depth];
+            if outer == 0 {
+                return true;
+            }
+            outer -= 1;
+            at = kept[outer];
         } else {
             let kind = table::kind_at(rows, row);
             if 66 <= kind {
                 return false;
             }
             let entry = entries[kind];
-            let step = row_step(rows, row, to, left, entry, names);
+            let step = row_step(rows, row, at, entry, names);
             row += 1;
             match step {
                 Step::Unfit => return false,
-                Step::Leaf(after) => left = after,
-                Step::Opens(after, end) => {
-                    if 100 <= depth {
-                        return false;
-                    }
-                    ends[depth] = to;
-                    lefts[depth] = after;
-                    depth += 1;
-                    to = end;
-                    left = entry.children;
+                Step::Leaf(left) => at.left = left,
+                Step::Last => {
+                    at.left = entry.children;
+                    at.depth += 1;
+                }
+                Step::Opens(left, end) => {
+                    kept[outer] = Range {
+                        to: at.to,
+                        left: left,
+                        depth: at.depth,
+                    };
+                    outer += 1;
+                    at.to = end;
+                    at.left = entry.children;
+                    at.depth += 1;
                 }
             }
         }
     }
-    true
 }
 
 // Whether a table passes the checks of fields, ends and depth, and children. No says only that the checks must be asked one by one.

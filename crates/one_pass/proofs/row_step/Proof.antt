@@ -19,7 +19,6 @@ row-step-spec =
     (λ c. search needs)
     (λ c κs. search needs)
     (λ c. search stepping)
-    (λ c. search stepping)
-    (λ c. search stepping)
+    (λ c κs. search needs)
     (λ c. search stepping)
     (λ c. search stepping))

@@ -1,14 +1,14 @@
 use borrow.Author.Needs.{needs}
 use Prim.Native.Nat.{_+_, _*_, _-_}
-use Rattle.one_pass.proofs.Passing.{Passing, passing, passing-open}
+use Rattle.one_pass.proofs.Passing.{Passing, passing}
 use Rattle.one_pass.proofs.rows_pass.Statement.{statement}
 use Rattle.one_pass.proofs.rows_pass.Tie as tie
 
 abbrev Inv-loop : tie.InvT-loop
-Inv-loop rows count names entries ends₀ lefts₀ depth₀ row₀ to₀ left₀ ends lefts depth row to left = Passing rows names count ends lefts depth row to left
+Inv-loop rows count names entries kept₀ outer₀ at₀ row₀ kept outer at row = Passing rows names count kept outer at row
 
 abbrev μ-loop : tie.MeasureT-loop
-μ-loop rows count names entries ends₀ lefts₀ depth₀ row₀ to₀ left₀ ends lefts depth row to left = 2 * (count - row) + depth
+μ-loop rows count names entries kept₀ outer₀ at₀ row₀ kept outer at row = 2 * (count - row) + outer
 
 pub rows-pass-spec : {M : Type 1} → statement M
 rows-pass-spec =
@@ -20,8 +20,7 @@ rows-pass-spec =
     (λ c. search passing)
     (λ c κs. search needs)
     (λ c. search passing)
-    (λ c. search needs)
-    (λ c. search needs)
+    (λ c. search passing)
     (λ c. search needs)
     (λ c. search needs)
     (λ c. search needs)
@@ -39,6 +38,8 @@ rows-pass-spec =
     (λ c. search needs)
     (λ c. search passing)
     (λ c. search needs)
+    (λ c. search needs)
+    (λ c. search needs)
     (λ c. search passing)
     (λ c. search needs)
     (λ c. search needs)
@@ -46,5 +47,4 @@ rows-pass-spec =
     (λ c. search needs)
     (λ c. search needs)
     (λ c. search needs)
-    (λ c. search passing-open)
     (λ c. search passing))
