@@ -1,6 +1,6 @@
 -- The loop of `rows_pass`. What it keeps says which rows are still to be looked at, and that all is well where those are.
-use Prim.Native.Nat.{ℕ, zero, suc, _+_, _-_, _*_, _≤_, _<_}
-use mathlib.Core.Path.{_≡_, refl, sym, subst, _∙_}
+use Prim.Native.Nat.{ℕ, zero, suc, _+_, _-_, _≤_, _<_}
+use mathlib.Core.Path.{_≡_, sym, subst, _∙_}
 use mathlib.Core.Bool.{Bool, true, false, not}
 use mathlib.Core.List.{List, [], map}
 use native.Mathlib.Omega.{arith}
@@ -17,9 +17,9 @@ use Rattle.kinds.proofs.Numbers.{entry-sides, entry-items}
 use Rattle.checks.specs.Held.{Held}
 use Rattle.one_pass.specs.declared.Range.{Range}
 use Rattle.one_pass.specs.declared.Step.{Step}
-use Rattle.one_pass.specs.declared.Step.the-variants.{Leaf, Last, Opens}
-use Rattle.one_pass.specs.Steps.{Given, Lasts, Opened, StepTold}
-use Rattle.one_pass.specs.Right.{Well, WellTold}
+use Rattle.one_pass.specs.declared.Step.the-variants.{Goes, Opens}
+use Rattle.one_pass.specs.Steps.{Given, Fine, Goes-on, Opened, StepTold}
+use Rattle.one_pass.specs.Right.{oneStatement, Well, WellTold}
 use Rattle.one_pass.proofs.Front.{well-none}
 
 abbrev pub none : Range
@@ -35,10 +35,6 @@ pub record Holds (count p n : ℕ) (k : Range) : Type 0 where
 unfoldable pub Kept : ℕ → List Range → ℕ → ℕ → Type 0
 Kept count kept zero p = Unit {0}
 Kept count kept (suc n) p = Holds count p n (getD kept n none) × Kept count kept n (getD kept n none .to)
-
--- the rows from p up to the end of a range are well, as siblings for the items that are left
-abbrev pub Fine : List ℕ → ℕ → ℕ → Range → Type 0
-Fine rows names p k = Well rows names p (k .to) (k .left) (101 - k .depth)
 
 -- what is still to be shown of the ranges that are kept: from p on the last of them, then the one before it from there on, and so on
 unfoldable pub Rest : List ℕ → ℕ → List Range → ℕ → ℕ → Type 0
@@ -66,9 +62,9 @@ pub record Passing (rows : List ℕ) (names count : ℕ) (kept : List Range) (ou
   pub upto : row ≤ at .to
   pub within : at .to ≤ count
   pub outside : Kept count kept outer (at .to)
-  pub whole : Fine rows names row at → Rest rows names kept outer (at .to) → Well rows names 0 count 10251 100
+  pub whole : Fine rows names row at → Rest rows names kept outer (at .to) → Well rows names 0 count oneStatement 100
 
-pub passing-start : (rows : List ℕ) (names count : ℕ) (kept : List Range) → length kept ≡ 100 → Passing rows names count kept 0 (record { to = count; left = 10251; depth = 1 }) 0
+pub passing-start : (rows : List ℕ) (names count : ℕ) (kept : List Range) → length kept ≡ 100 → Passing rows names count kept 0 (record { to = count; left = oneStatement; depth = 1 }) 0
 unfolding Kept Rest
 passing-start rows names count kept e = record {
   deep = omega arith;
@@ -114,70 +110,50 @@ module _ (rows : List ℕ) (names count : ℕ) (kept : List Range) (at : Range) 
     passing-done z = let v : Passing rows names count kept 0 at row = rw z at w in record { well = λ x. v .whole fine tt }
 
 -- one row more
-module _ (rows : List ℕ) (names count : ℕ) (kept : List Range) (outer : ℕ) (at : Range) (row : ℕ) (w : Passing rows names count kept outer at row) (inner : ℕ) (step : Step) (t : StepTold rows names row at inner step) where
-  z : 101 - at .depth ≡ (100 - at .depth) + 1
-  z = omega (arith, w .shallow)
-
-  -- that holds none
-  pub passing-leaf : (left : ℕ) → (row ≡ at .to → ⊥) → step ≡ Leaf left → Passing rows names count kept outer (record { to = at .to; left = left; depth = at .depth }) (row + 1)
-  passing-leaf left q s = record {
-    deep = w .deep;
-    shallow = w .shallow;
-    size = w .size;
-    upto = omega (arith, w .upto);
-    within = w .within;
-    outside = w .outside;
-    whole = λ f. w .whole (rw z (t .leaf left s (100 - at .depth) (rw z at f)));
-  }
-
-  -- that is the last of its range and holds rows, which come next
-  pub passing-last : step ≡ Last → Passing rows names count kept outer (record { to = at .to; left = inner; depth = at .depth + 1 }) (row + 1)
-  passing-last s =
-      let o : Lasts rows names row at inner = t .last s in
-      let x : 101 - (at .depth + 1) ≡ 100 - at .depth = omega arith in
+module _ (rows : List ℕ) (names count : ℕ) (kept : List Range) (outer : ℕ) (at : Range) (row : ℕ) (w : Passing rows names count kept outer at row) (step : Step) (t : StepTold rows names row at step) where
+  -- one range comes after it
+  pub passing-goes : (next : Range) → step ≡ Goes next → Passing rows names count kept outer next (row + 1)
+  passing-goes next s =
+      let o : Goes-on rows names row at next = t .goes next s in
       record {
-        deep = omega (arith, w .deep);
-        shallow = omega (arith, o .ends .shallow);
+        deep = omega (arith, w .deep, o .deep);
+        shallow = o .shallow;
         size = w .size;
-        upto = omega (arith, o .ends .after);
-        within = w .within;
-        outside = w .outside;
-        whole = λ f. w .whole (rw z (o .well (100 - at .depth) (rw x at f)));
+        upto = omega (arith, o .upto, o .to);
+        within = omega (arith, w .within, o .to);
+        outside = rw (o .to) at (w .outside);
+        whole = λ f r. w .whole (o .well f) (rw (o .to) r);
       }
 
-  -- that is not, and holds rows
-  pub passing-open : (left end : ℕ) → step ≡ Opens left end → Passing rows names count (set kept outer (record { to = at .to; left = left; depth = at .depth })) (outer + 1) (record { to = end; left = inner; depth = at .depth + 1 }) (row + 1)
+  -- two do, of which the later is kept
+  pub passing-opens : (rest inner : Range) → step ≡ Opens rest inner → Passing rows names count (set kept outer rest) (outer + 1) inner (row + 1)
   unfolding Kept Rest
-  passing-open left end s = record {
-    deep = omega (arith, w .deep);
-    shallow = omega (arith, o .ends .shallow);
+  passing-opens rest inner s = record {
+    deep = omega (arith, w .deep, o .deep);
+    shallow = o .shallow;
     size = simp length-set (w .size);
-    upto = omega (arith, o .ends .after);
-    within = omega (arith, w .within, o .ends .within);
-    outside = rw (add-one outer, new) (record { upto = o .ends .within; within = w .within; deep = w .deep; shallow = w .shallow }, kept-same kept others count outer (at .to) same (w .outside));
+    upto = omega (arith, o .upto);
+    within = omega (arith, w .within, o .within);
+    outside = rw (add-one outer, new) (holds, kept-same kept (set kept outer rest) count outer (rest .to) same (rw (o .to) at (w .outside)));
     whole = λ f r. opened f (rw (add-one outer) at r);
   }
     where
-      o : Opened rows names row at inner left end
-      o = t .opens left end s
+      o : Opened rows names row at rest inner
+      o = t .opens rest inner s
 
-      range : Range
-      range = record { to = at .to; left = left; depth = at .depth }
+      holds : Holds count (inner .to) outer rest
+      holds = record { upto = omega (arith, o .within, o .to); within = omega (arith, w .within, o .to); deep = omega (arith, w .deep, o .same); shallow = omega (arith, w .shallow, o .same) }
 
-      others : List Range
-      others = set kept outer range
+      new : getD (set kept outer rest) outer none ≡ rest
+      new = getD-set-same kept outer rest none (omega (arith, w .size, w .deep, w .shallow))
 
-      new : getD others outer none ≡ range
-      new = getD-set-same kept outer range none (omega (arith, w .size, w .deep, w .shallow))
+      same : (i : ℕ) → i < outer → getD (set kept outer rest) i none ≡ getD kept i none
+      same i l = getD-set-other kept outer i rest none (λ e. omega arith)
 
-      same : (i : ℕ) → i < outer → getD others i none ≡ getD kept i none
-      same i l = getD-set-other kept outer i range none (λ e. omega arith)
-
-      opened : Well rows names (row + 1) end inner (101 - (at .depth + 1)) → Rest rows names others (suc outer) end → Well rows names 0 count 10251 100
+      opened : Fine rows names (row + 1) inner → Rest rows names (set kept outer rest) (suc outer) (inner .to) → Well rows names 0 count oneStatement 100
       opened f r =
-          let x : 101 - (at .depth + 1) ≡ 100 - at .depth = omega (arith, o .ends .shallow) in
-          let g : Fine rows names end range × Rest rows names others outer (at .to) = rw new at r in
-          w .whole (rw z (o .well (100 - at .depth) (rw x at f) (rw z at (g .0)))) (rest-same kept others rows names outer (at .to) same (g .1))
+          let g : Fine rows names (inner .to) rest × Rest rows names (set kept outer rest) outer (rest .to) = rw new at r in
+          w .whole (o .well f (g .0)) (rw (o .to) (rest-same kept (set kept outer rest) rows names outer (rest .to) same (g .1)))
 
 -- the entry of a row's kind
 pub given-row : (rows : List ℕ) (names count : ℕ) (kept : List Range) (outer : ℕ) (at : Range) (row : ℕ) (entries : List Kind) (d : Kind) (k : ℕ)
@@ -191,9 +167,10 @@ pub given-row : (rows : List ℕ) (names count : ℕ) (kept : List Range) (outer
 given-row rows names count kept outer at row entries d k w h q e u t = record {
   below = omega (arith, w .upto);
   room = omega (arith, w .within, h .room);
+  shallow = w .shallow;
   known = rw (← e) u;
   sides = rw (← e) (entry-sides entries k d t u);
   items = rw (← e) (entry-items entries k d t u);
 }
 
-pub ruleset passing = (passing-start, passing-done, passing-not, passing-close, passing-leaf, passing-last, passing-open, given-row)
+pub ruleset passing = (passing-start, passing-done, passing-not, passing-close, passing-goes, passing-opens, given-row)

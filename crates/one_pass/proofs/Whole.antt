@@ -17,10 +17,10 @@ use Rattle.checks.specs.Held.{Held}
 use Rattle.checks.specs.Checks.{endsBefore, above, enclosing, depthAt, kindAlone, kindsOf}
 use Rattle.checks.proofs.Nest.{RightEnds}
 use Rattle.checks.proofs.Passed.{RightFields, RightChildren, fields-pass, children-pass}
-use Rattle.one_pass.specs.Right.{Well, WellTold, PassesAll}
+use Rattle.one_pass.specs.Right.{oneStatement, Well, WellTold, PassesAll}
 
 -- the code's number of one statement
-one-statement : 10251 ≡ itemsNumber (one S ∷ [])
+one-statement : oneStatement ≡ itemsNumber (one S ∷ [])
 unfolding itemsNumber itemNumber firstOf pastOf before amount ofClass classNumber kinds
 one-statement = refl
 
@@ -38,7 +38,7 @@ module _ (rows : List ℕ) (count : ℕ) (g : Nested rows 0 count) (h : 0 < coun
       go true t = true-not-false (sym (rw (fold-some kindAlone (others g h) (ltb-true (endAt rows 0) count t)) at (root .1)))
       go false t = omega (arith, ltb-false (endAt rows 0) count t, ends-within g h)
 
-module _ (rows : List ℕ) (count names : ℕ) (l : 1 ≤ count) (m : count ≤ 2000) (room : 5 * count ≤ length rows) (w : Well rows names 0 count 10251 100) where
+module _ (rows : List ℕ) (count names : ℕ) (l : 1 ≤ count) (m : count ≤ 2000) (room : 5 * count ≤ length rows) (w : Well rows names 0 count oneStatement 100) where
   held : Held rows count
   held = record { some = l; few = m; room = room }
 

@@ -31,9 +31,13 @@ pub record Well (rows : List ℕ) (names from to items deep : ℕ) : Type 0 wher
   pub all : RightRows rows names from to deep
   pub siblings : (full : List Item) → items ≡ itemsNumber full → fits full (kindsOf (tree rows from to)) ≡ true
 
+-- the code's number of the items of one statement
+abbrev pub oneStatement : ℕ
+oneStatement = 10251
+
 -- all the rows of a table, at most 100 deep, as one statement
 pub record WellTold (rows : List ℕ) (names count : ℕ) (r : Bool) : Type 0 where
-  pub well : r ≡ true → Well rows names 0 count 10251 100
+  pub well : r ≡ true → Well rows names 0 count oneStatement 100
 
 -- a yes says that the table passes the checks of fields, ends and depth, and children
 pub record PassesAll (rows : List ℕ) (count names : ℕ) (r : Bool) : Type 0 where

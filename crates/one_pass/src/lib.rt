@@ -6,25 +6,25 @@ ghost use Rattle.checks.specs.Held.{Held};
 ghost use Rattle.one_pass.specs.Right.{WellTold, PassesAll};
 ghost use Rattle.one_pass.specs.Steps.{AfterChild, Given, InnerTold, StepTold};
 
-// What is left of a kind's items once a child is taken.
+// The items that are left of a kind's, once a child is taken.
 enum Next {
     Left(usize),
     Unfit,
 }
 
-// The rows that a row holds, or all of a table's: where they end, the items that are left for those not looked at, and how deep they stand.
+// The rows that a row holds, or all of a table's: where they end, the items that are left for those to come, and how deep
+// they stand.
 struct Range {
     to: usize,
     left: usize,
     depth: usize,
 }
 
-// What a row leaves: after a row that holds none, the items that are left; nothing after the last row of its range, where it holds rows;
-// after any other that holds rows, the items that are left, and its end.
+// What comes after a row: the rows of one range, which stand in it or after it; those that stand in it, and later those after it,
+// which are the first of the two; or nothing, since it does not pass.
 enum Step {
-    Leaf(usize),
-    Last,
-    Opens(usize, usize),
+    Goes(Range),
+    Opens(Range, Range),
     Unfit,
 }
 
@@ -45,9 +45,9 @@ fn after_child(items: usize, kind: usize) -> Next
     Next::Left(kinds::after_first(left))
 }
 
-// What a row that holds rows leaves, with the items that are left after it.
-fn inner_step(row: usize, end: usize, at: Range, left: usize) -> Step
-    ensures { λ r. ⌜ InnerTold row end at left r ⌝ }
+// What comes after a row that does not end right after itself: the rows that it holds, of these items, and those after it.
+fn inner_step(row: usize, end: usize, at: Range, left: usize, items: usize) -> Step
+    ensures { λ r. ⌜ InnerTold row end at left items r ⌝ }
 {
     if 100 <= at.depth {
         return Step::Unfit;
@@ -58,19 +58,29 @@ fn inner_step(row: usize, end: usize, at: Range, left: usize) -> Step
     if at.to < end {
         return Step::Unfit;
     }
+    let inner = Range {
+        to: end,
+        left: items,
+        depth: at.depth + 1,
+    };
     if end < at.to {
-        return Step::Opens(left, end);
+        let rest = Range {
+            to: at.to,
+            left: left,
+            depth: at.depth,
+        };
+        return Step::Opens(rest, inner);
     }
     if !child_checks::all_repeat(left) {
         return Step::Unfit;
     }
-    Step::Last
+    Step::Goes(inner)
 }
 
-// What a row leaves that is one of a range.
+// What comes after a row of a range.
 fn row_step(rows: &[u32], row: usize, at: Range, entry: Kind, names: usize) -> Step
     requires { ⌜ Given (now rows) row at entry ⌝ }
-    ensures { λ r. ⌜ StepTold (now (rows .entry)) names row at (entry .children) r ⌝ }
+    ensures { λ r. ⌜ StepTold (now (rows .entry)) names row at r ⌝ }
 {
     if !kinds::side_fits(entry, table::side_at(rows, row), names) {
         return Step::Unfit;
@@ -81,16 +91,21 @@ fn row_step(rows: &[u32], row: usize, at: Range, entry: Kind, names: usize) -> S
     };
     let end = table::end_at(rows, row);
     if end != row + 1 {
-        return inner_step(row, end, at, left);
+        return inner_step(row, end, at, left, entry.children);
     }
     if !child_checks::all_repeat(entry.children) {
         return Step::Unfit;
     }
-    Step::Leaf(left)
+    let rest = Range {
+        to: at.to,
+        left: left,
+        depth: at.depth,
+    };
+    Step::Goes(rest)
 }
 
 // Whether row 0 is a statement that holds all the rows, and every row passes. `at` is the innermost range that has not ended, and
-// `kept` holds those that it stands in and that have rows after it.
+// `kept` holds those that come later.
 fn rows_pass(rows: &[u32], count: usize, names: usize) -> bool
     requires { ⌜ Held (now rows) count ⌝ }
     ensures { λ r. ⌜ WellTold (now (rows .entry)) names count r ⌝ }
@@ -123,26 +138,15 @@ fn rows_pass(rows: &[u32], count: usize, names: usize) -> bool
             if 66 <= kind {
                 return false;
             }
-            let entry = entries[kind];
-            let step = row_step(rows, row, at, entry, names);
+            let step = row_step(rows, row, at, entries[kind], names);
             row += 1;
             match step {
                 Step::Unfit => return false,
-                Step::Leaf(left) => at.left = left,
-                Step::Last => {
-                    at.left = entry.children;
-                    at.depth += 1;
-                }
-                Step::Opens(left, end) => {
-                    kept[outer] = Range {
-                        to: at.to,
-                        left: left,
-                        depth: at.depth,
-                    };
+                Step::Goes(next) => at = next,
+                Step::Opens(rest, inner) => {
+                    kept[outer] = rest;
                     outer += 1;
-                    at.to = end;
-                    at.left = entry.children;
-                    at.depth += 1;
+                    at = inner;
                 }
             }
         }

@@ -10,6 +10,7 @@ inner-step-spec =
     (λ c. search inner)
     (λ c. search inner)
     (λ c. search inner)
+    (λ c. search needs)
     (λ c. search inner)
     (λ c κs. search needs)
     (λ c. search inner)
