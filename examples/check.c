@@ -9,6 +9,8 @@
 static uint8_t sheet[DA_SHEET_BYTES + 1];
 static uint32_t rows[DA_ROW_NUMBERS];
 static uint32_t names[DA_NAME_NUMBERS];
+
+/* The player's words, to show those that a give-up points at. */
 static char text[DA_SHEET_BYTES];
 
 static const char *const reasons[10] = {

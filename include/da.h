@@ -4,8 +4,8 @@
  * into what is lent to it, so any number of threads may call at once, each with tables of its own.
  *
  * What C must see to, since no proof reaches it:
- *  - a pointer with a length points at that many elements, all of them set (what the tables hold before a load may be anything);
- *    with length 0 no memory is needed behind it;
+ *  - a pointer with a length points at that many elements, set where the call reads them (da_load and da_verdict read nothing that
+ *    stood in the tables before); with length 0 no memory is needed behind it, and the pointer may be null;
  *  - what a call writes overlaps nothing else that it is lent;
  *  - lengths of tables count numbers, not bytes;
  *  - 64 KiB of stack are left below the caller.
@@ -25,7 +25,7 @@
  *    10  more than 65536 bytes (place 0)
  *    21  a table too short for the sheet (place 0)
  *   of what is lent (ask, name)
- *    22  a record outside its ranges, or a table too short for it (place 0)
+ *    22  a record outside its ranges, or a table too short for it, which for a name is the name table (place 0)
  *    23  a row of the table breaks 5 to 9, or names no name (ask; the place is the row), or a jump mark is above 1 (place 0)
  *    24  no such name, or its place is not in the bytes lent (name; no place)
  */
@@ -63,11 +63,21 @@ typedef struct {
 /* Which of the four an answer is. Falls and jumps are accepted. */
 enum { DA_FALLS = 0, DA_JUMPS = 1, DA_GIVEUP = 2, DA_REFUSED = 3 };
 
-/* What is not used is 0. */
+/* What is not used is 0. The reasons of a give-up, which may be caution:
+ *   1  the net is shared and time can advance
+ *   2  the local is read before any write; the span is the expression's, that of the others the statement's
+ *   3  the event on an assignment refers to it
+ *   4  only a part of it is written
+ *   5  a fork
+ *   6  a called task reads it
+ *   7  a called task may
+ *   8  an event control refers to it
+ *   9  a form that is not modelled
+ */
 typedef struct {
     size_t answer; /* DA_FALLS .. DA_REFUSED */
     size_t state;  /* falls: 1 if the local is written wherever the statement ends */
-    size_t reason; /* a give-up's reason, 1..9; a refusal's number */
+    size_t reason; /* a give-up's reason, 1..9 below; a refusal's number */
     size_t lo;     /* a give-up's span, as the sheet has it; a refusal's place */
     size_t hi;
 } da_answer;
@@ -87,20 +97,21 @@ size_t da_name_numbers(void);
 /* Loads a sheet into the two tables.
  * True: the record is set, the refusal zero; rows has five numbers for each row (kind, side, lo, hi, end), names three for each name
  * (offset, length, jump mark), and both are zero after that. Such a record with such tables is never refused by da_ask.
- * False: the refusal tells number and line, and the record and both tables are all zero. */
+ * False: the refusal tells number and line (0 for 10 and 21), and the record and both tables are all zero. */
 bool da_load(const uint8_t *sheet, size_t sheet_length, uint32_t *rows, size_t rows_length, uint32_t *names, size_t names_length,
              da_record *record, da_refusal *refusal);
 
-/* Whether every read of the local comes after a write, in the sheet that the record and the tables hold. The tables are read only, and
- * are checked whole before anything is trusted: they may come from anywhere.
- * True: accepted, falls or jumps.
+/* Asks whether every read of the local comes after a write, in the sheet that the record and the tables hold. The tables are read only,
+ * and are checked as far as the record counts before anything is trusted: they may come from anywhere.
+ * True: accepted, falls or jumps. With start 0, and provided the premises that the README lists, every read of the local then has a write
+ * before it on every path.
  * False: a give-up, with reason and span; or refusal 22 or 23, with its place. */
 bool da_ask(const da_record *record, const uint32_t *rows, size_t rows_length, const uint32_t *names, size_t names_length,
             da_answer *answer);
 
 /* da_load, then da_ask on what it left: the call for a server that wants no names.
- * True: accepted, falls or jumps.
- * False: a give-up, with reason and span; or a refusal of the sheet, with its line as place.
+ * True: accepted, falls or jumps; what it means is what it means of da_ask.
+ * False: a give-up, with reason and span; or a refusal 1 to 10 or 21, with its place, a line or 0.
  * The tables end as da_load leaves them: zero after a refusal. */
 bool da_verdict(const uint8_t *sheet, size_t sheet_length, uint32_t *rows, size_t rows_length, uint32_t *names, size_t names_length,
                 da_answer *answer);

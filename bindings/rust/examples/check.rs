@@ -1,7 +1,7 @@
 //! Checks answers: for each NAME it loads NAME.sheet, asks, and prints what the player is told, with the words of NAME.v that a give-up
 //! points at. usage: check NAME..
 
-use definite_assignment::{ask, load, name, Answer, Record, NAME_NUMBERS, ROW_NUMBERS};
+use definite_assignment::{ask, lengths_agree, load, name, Answer, Record, NAME_NUMBERS, ROW_NUMBERS};
 use std::{env, fs, io};
 
 const REASONS: [&str; 10] = [
@@ -51,6 +51,7 @@ fn check(path: &str, rows: &mut [u32], names: &mut [u32]) -> io::Result<()> {
 }
 
 fn main() -> io::Result<()> {
+    assert!(lengths_agree(), "the crate is not of this archive");
     let (mut rows, mut names) = ([0; ROW_NUMBERS], [0; NAME_NUMBERS]);
     for path in env::args().skip(1) {
         check(&path, &mut rows, &mut names)?;

@@ -1,7 +1,8 @@
 //! Safe calls of the proved definite-assignment checker. `include/da.h` says what each call does and what it leaves in the tables.
 //!
 //! The declarations of `calls` are the one place where nothing is checked. They take slices and places of the right type from the safe
-//! functions below, so nothing that C must see to is left to a caller: references hold what they say, are set, and do not overlap.
+//! functions below: references hold what they say, are set, and do not overlap. So of what C must see to one thing is left to a caller,
+//! the 64 KiB of stack that `ask` and `verdict` may take.
 
 #![no_std]
 
@@ -73,6 +74,8 @@ mod calls {
     }
 
     extern "C" {
+        pub fn da_row_numbers() -> usize;
+        pub fn da_name_numbers() -> usize;
         pub fn da_load(
             sheet: *const u8,
             sheet_length: usize,
@@ -121,6 +124,12 @@ fn answer_of(accepted: bool, numbers: &calls::Numbers) -> Answer {
     };
     debug_assert_eq!(accepted, answer.accepted());
     answer
+}
+
+/// Whether `ROW_NUMBERS` and `NAME_NUMBERS` are those of the archive that is linked.
+pub fn lengths_agree() -> bool {
+    // SAFETY: the calls take nothing, and answer a constant each.
+    unsafe { calls::da_row_numbers() == ROW_NUMBERS && calls::da_name_numbers() == NAME_NUMBERS }
 }
 
 /// Loads a sheet into two tables. A refusal leaves zeros in both.

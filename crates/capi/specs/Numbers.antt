@@ -38,6 +38,7 @@ recordNumbers r = r .names ∷ r .rows ∷ r .local ∷ r .start ∷ r .sole ∷
 unfoldable pub recordFrom : List ℕ → Record
 recordFrom ns = record { names = getD ns 0 0; rows = getD ns 1 0; local = getD ns 2 0; start = getD ns 3 0; sole = getD ns 4 0 }
 
+-- whether "counts of names and rows, local, start, sole" are told, and not a refusal
 abbrev pub isLoaded : Loaded → Bool
 isLoaded (L.Done r) = true
 isLoaded (L.Refused refusal line) = false
@@ -50,6 +51,7 @@ loadedNumbers loaded = recordNumbers (recordOf loaded)
 abbrev pub refusalNumbers : Loaded → List ℕ
 refusalNumbers loaded = refusalOf loaded ∷ placeOf loaded ∷ []
 
+-- whether there is "a name's text", and not a refusal
 abbrev pub isFound : Named → Bool
 isFound (N.At offset size) = true
 isFound (N.Refused refusal) = false

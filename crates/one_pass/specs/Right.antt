@@ -10,7 +10,7 @@ use Rattle.kinds.specs.Numbers.{itemsNumber}
 use Rattle.checks.specs.declared.Checked.the-variants.{Passed}
 use Rattle.checks.specs.Checks.{fieldsOf, endsBefore, above, kindsOf, childrenFit, childrenOf}
 
--- what the checks of fields and of children ask of row i
+-- what the checks of fields and of children ask of row i: refusals 5, 6 and 9
 pub record RightRow (rows : List ℕ) (names i : ℕ) : Type 0 where
   pub known : kindAt rows i < 66
   pub sides : sideFits (entry (kindAt rows i) .sides) names (sideAt rows i) ≡ true
@@ -20,7 +20,7 @@ pub record RightRow (rows : List ℕ) (names i : ℕ) : Type 0 where
 abbrev pub opens : List ℕ → ℕ → ℕ → ℕ
 opens rows i n = length (above i (endsBefore rows n))
 
--- the rows from `from` up to `to` nest and are right, and each stands in fewer than `deep` of them
+-- the rows from `from` up to `to` nest and are right, and each stands in fewer than `deep` of them: refusals 7 and 8 as well
 pub record RightRows (rows : List ℕ) (names from to deep : ℕ) : Type 0 where
   pub nested : Nested rows from to
   pub right : (i : ℕ) → from ≤ i → i < to → RightRow rows names i

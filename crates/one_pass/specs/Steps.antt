@@ -44,6 +44,8 @@ pub record Inner (row end : ℕ) (at : Range) (items : ℕ) (inner : Range) : Ty
   pub within : end ≤ at .to
   pub shallow : at .depth < 100
 
+-- what `inner_step` tells: the rows that the row holds come next, where it is the last of its range and no more need stand there; or
+-- they do, and the rest of the range later
 pub record InnerTold (row end : ℕ) (at : Range) (left items : ℕ) (r : Step) : Type 0 where
   pub goes : (next : Range) → r ≡ Goes next → Inner row end at items next
   pub last : (next : Range) → r ≡ Goes next → end ≡ at .to
@@ -63,6 +65,7 @@ pub record Goes-on (rows : List ℕ) (names row : ℕ) (at next : Range) : Type 
   pub shallow : next .depth ≤ 100
   pub well : Fine rows names (row + 1) next → Fine rows names row at
 
+-- the same of a row that holds rows and is not the last of its range
 pub record Opened (rows : List ℕ) (names row : ℕ) (at rest inner : Range) : Type 0 where
   pub to : at .to ≡ rest .to
   pub same : at .depth ≡ rest .depth
@@ -72,6 +75,7 @@ pub record Opened (rows : List ℕ) (names row : ℕ) (at rest inner : Range) : 
   pub shallow : inner .depth ≤ 100
   pub well : Fine rows names (row + 1) inner → Fine rows names (inner .to) rest → Fine rows names row at
 
+-- what `row_step` tells
 pub record StepTold (rows : List ℕ) (names row : ℕ) (at : Range) (r : Step) : Type 0 where
   pub goes : (next : Range) → r ≡ Goes next → Goes-on rows names row at next
   pub opens : (rest inner : Range) → r ≡ Opens rest inner → Opened rows names row at rest inner

@@ -104,8 +104,9 @@ fn skips_iff(rows: &[u32], iff: Iff, i: usize) -> bool
     }
 }
 
-// Whether a kind is none of those that a row refers by: expressions and targets have numbers from 40 on, and of the kinds before
-// them only an event is looked at for itself. Most rows are such, and this is all that is asked of them.
+// Whether a kind is none of those that a row refers by: expressions and targets have numbers from 40 on, the first being `lit`, which
+// refers to nothing, and of the kinds before them only an event, 7, is looked at for itself. Most rows are such, and this is all that
+// is asked of them.
 fn is_plain(kind: usize) -> bool
     ensures { λ r. ⌜ (r ≡ true → roleOf (exprClass kind) ≡ ByContent) ⌝ }
 {

@@ -1,6 +1,6 @@
 -- Demand 3 over bytes: "a single claim over every sheet with start 0 that loads and that asking accepts with the tables as loading left
--- them, and over all its paths". It does not cover what a called function or task reads inside itself, which reasons 6 and 7 are left
--- to, nor what other blocks write to a shared net, nor that the walk is the Rust's, which rests on comparison. Definitions only.
+-- them, and over all its paths". It does not cover what a called function or task reads inside itself, which is left to reasons 6 and
+-- 7, nor what other blocks write to a shared net, nor that the walk is the Rust's, which rests on comparison. Definitions only.
 use mathlib.Core.Path.{_≡_}
 use mathlib.Core.Bool.{true}
 use mathlib.Core.List.{List}
