@@ -56,29 +56,30 @@ asked-of r q rows names a e h = h ∙ ap (λ (p : Record). askOf p rows names) e
 pub named-of : (s : List ℕ) (r q : Record) (names : List ℕ) (number : ℕ) (n : Named) → q ≡ r → n ≡ namePlace s q names number → n ≡ namePlace s r names number
 named-of s r q names number n e h = h ∙ ap (λ (p : Record). namePlace s p names number) e
 
-module _ (a b : Answer) (e : a ≡ b) where
-  pub accepted-told : (r : Bool) → r ≡ isAccepted a → r ≡ isAccepted b
-  accepted-told r h = rw (h, e)
+-- what is told of an answer of the call below is told of the definition that it equals
+told : {A B : Type 0} (f : A → B) {a b : A} {r : B} → a ≡ b → r ≡ f a → r ≡ f b
+told f e h = h ∙ ap f e
 
-  pub numbers-told : (ns : List ℕ) → ns ≡ answerNumbers a → ns ≡ answerNumbers b
-  numbers-told ns h = rw (h, e)
+pub accepted-told : (a b : Answer) (r : Bool) → a ≡ b → r ≡ isAccepted a → r ≡ isAccepted b
+accepted-told a b r = told isAccepted
 
-module _ (l k : Loaded) (e : l ≡ k) where
-  pub loaded-told : (r : Bool) → r ≡ isLoaded l → r ≡ isLoaded k
-  loaded-told r h = rw (h, e)
+pub numbers-told : (a b : Answer) (ns : List ℕ) → a ≡ b → ns ≡ answerNumbers a → ns ≡ answerNumbers b
+numbers-told a b ns = told answerNumbers
 
-  pub record-told : (ns : List ℕ) → ns ≡ loadedNumbers l → ns ≡ loadedNumbers k
-  record-told ns h = rw (h, e)
+pub loaded-told : (l k : Loaded) (r : Bool) → l ≡ k → r ≡ isLoaded l → r ≡ isLoaded k
+loaded-told l k r = told isLoaded
 
-  pub refusal-told : (ns : List ℕ) → ns ≡ refusalNumbers l → ns ≡ refusalNumbers k
-  refusal-told ns h = rw (h, e)
+pub record-told : (l k : Loaded) (ns : List ℕ) → l ≡ k → ns ≡ loadedNumbers l → ns ≡ loadedNumbers k
+record-told l k ns = told loadedNumbers
 
-module _ (n m : Named) (e : n ≡ m) where
-  pub found-told : (r : Bool) → r ≡ isFound n → r ≡ isFound m
-  found-told r h = rw (h, e)
+pub refusal-told : (l k : Loaded) (ns : List ℕ) → l ≡ k → ns ≡ refusalNumbers l → ns ≡ refusalNumbers k
+refusal-told l k ns = told refusalNumbers
 
-  pub place-told : (ns : List ℕ) → ns ≡ placeNumbers n → ns ≡ placeNumbers m
-  place-told ns h = rw (h, e)
+pub found-told : (n m : Named) (r : Bool) → n ≡ m → r ≡ isFound n → r ≡ isFound m
+found-told n m r = told isFound
+
+pub place-told : (n m : Named) (ns : List ℕ) → n ≡ m → ns ≡ placeNumbers n → ns ≡ placeNumbers m
+place-told n m ns = told placeNumbers
 
 pub true-means : (s : List ℕ) (a : Answer) (r : Bool) → VerdictMeans s a → r ≡ isAccepted a → TrueMeans s r
 true-means s a r means h = record { safe = λ t. means .safe (accepted-is a (sym h ∙ t)) }
