@@ -40,7 +40,7 @@ use Rattle.da_leaf.specs.declared.Construct.{Construct}
 use Rattle.da_leaf.specs.declared.Construct.the-variants.{Leaf}
 use Rattle.da_rows.specs.Tables.{untimed, stmtAt, factsIn, factIn}
 use Rattle.da_rows.specs.Asking.{giveUpAt}
-use Rattle.da_leaf.specs.Leaves.{returnAt, taskAt, disableAt, eventControlAt, constructOf, asksFirst, LeafRow, leafAt}
+use Rattle.da_leaf.specs.Leaves.{returnAt, taskAt, disableAt, eventControlAt, constructOf, asksFirst, staysWritten, LeafRow, leafAt, vettedRow, referringAt}
 use Rattle.da_rows.proofs.Asking.{unless-then}
 
 -- call_effect
@@ -166,18 +166,7 @@ module _ (class : StmtClass) where
 
 pub ruleset constructs = (construct-named, construct-leaf)
 
--- da_leaf: the row with what stmt_no_ref answered of it
-abbrev pub vettedRow : DaCtx → List ℕ → ℕ → ℕ → Bool → StmtRow
-vettedRow ctx rows i end clear = record {
-  side = sideAt rows i;
-  lo = loAt rows i;
-  hi = hiAt rows i;
-  advances = stmtAt ctx rows i end .advances;
-  noRef = clear;
-  isJump = stmtAt ctx rows i end .isJump;
-  cannotEscape = stmtAt ctx rows i end .cannotEscape;
-}
-
+-- da_leaf and da_referring: the row by what stmt_no_ref answers of it
 abbrev leafWith : DaCtx → List ℕ → StmtClass → ℕ → ℕ → Bool → State → DaResult
 leafWith ctx rows class i end clear a =
     walkOf ctx class (vettedRow ctx rows i end clear) (factsIn (ctx .local) rows (i + 1) end) (heldFacts (ctx .local) (tree rows (i + 1) end)) [] .walk a
@@ -186,6 +175,17 @@ leafWith ctx rows class i end clear a =
 abbrev restTags : List ℕ
 restTags = 1 ∷ 2 ∷ 6 ∷ 8 ∷ 9 ∷ 10 ∷ 11 ∷ 12 ∷ 13 ∷ 23 ∷ []
 
+module _ (ctx : Context) (rows names : List ℕ) (class : StmtClass) (i end : ℕ) (a : State) (l : LeafRow rows class i end) where
+  pub leaf-by : (named : StmtClass) (r : DaResult) → class ≡ named → r ≡ referringAt (untimed ctx names) rows named i end a → r ≡ referringAt (untimed ctx names) rows class i end a
+  leaf-by named r q v = v ∙ rw q
+
+  -- what the last arm takes
+  abbrev restAnswer : StmtClass → DaResult
+  restAnswer named = cond (asksFirst (constructOf named)) (referringAt (untimed ctx names) rows named i end a) (Ok (Falls a))
+
+  pub leaf-rest : OneOf (0 ∷ restTags) (tagOf the-type class) → Ok (Falls a) ≡ referringAt (untimed ctx names) rows class i end a
+  leaf-rest o = sym (rw (l .leaf) at (last-arm restAnswer (Ok (Falls a)) 0 restTags class refl o))
+
 module _ (ctx : Context) (rows names : List ℕ) (class : StmtClass) (i end : ℕ) (a : State) (clear : Bool) (l : LeafRow rows class i end) (e : clear ≡ stmtNoRef (ctx .local) (tree rows i end)) where
   row-tree : tree rows i end ≡ node (kindAt rows i) (sideAt rows i) (loAt rows i) (hiAt rows i) (tree rows (i + 1) end) nil
   row-tree = rw (l .row .is) (tree-alone (l .row .alone) (l .row .after))
@@ -193,8 +193,8 @@ module _ (ctx : Context) (rows names : List ℕ) (class : StmtClass) (i end : �
   leaf-is : leafAt (untimed ctx names) rows class i end a ≡ leafWith (untimed ctx names) rows class i end clear a
   leaf-is = rw (e, row-tree)
 
-  pub leaf-by : (named : StmtClass) (r : DaResult) → class ≡ named → clear ≡ false → r ≡ leafWith (untimed ctx names) rows named i end false a → r ≡ leafAt (untimed ctx names) rows class i end a
-  leaf-by named r q h v = v ∙ sym (leaf-is ∙ rw (q, h))
+  pub leaf-refers : (r : DaResult) → clear ≡ false → r ≡ referringAt (untimed ctx names) rows class i end a → r ≡ leafAt (untimed ctx names) rows class i end a
+  leaf-refers r h v = v ∙ sym (leaf-is ∙ rw h)
 
   -- "if stmt_no_ref(st, name) { return Ok(DaOut::Falls(assigned)); }"
   vetted-falls : (named : StmtClass) → vetted (vetting named) (ctx .local) (tree rows (i + 1) end) ≡ true → Ok (Falls a) ≡ leafWith (untimed ctx names) rows named i end true a
@@ -229,11 +229,4 @@ module _ (ctx : Context) (rows names : List ℕ) (class : StmtClass) (i end : �
       let v : vetted (vetting class) (ctx .local) (tree rows (i + 1) end) ≡ true = rw (l .is) (rw (row-tree, h) at (sym e)) in
       vetted-falls class v ∙ sym (leaf-is ∙ rw h)
 
-  -- what the last arm takes
-  abbrev restAnswer : StmtClass → DaResult
-  restAnswer named = cond (asksFirst (constructOf named)) (leafWith (untimed ctx names) rows named i end clear a) (Ok (Falls a))
-
-  pub leaf-rest : OneOf (0 ∷ restTags) (tagOf the-type class) → Ok (Falls a) ≡ leafAt (untimed ctx names) rows class i end a
-  leaf-rest o = sym (leaf-is ∙ (rw (l .leaf) at (last-arm restAnswer (Ok (Falls a)) 0 restTags class refl o)))
-
-pub ruleset leaf-answers = (needs, leaf-by, leaf-clear, leaf-rest)
+pub ruleset leaf-answers = (needs, leaf-by, leaf-rest, leaf-refers, leaf-clear)

@@ -17,10 +17,10 @@ use Rattle.da.specs.declared.DaOut.the-variants.{Falls, Jumps}
 use Rattle.da.specs.declared.DaResult.{DaResult}
 use Rattle.da.specs.declared.DaResult.the-variants.{Ok, Err}
 use Rattle.da.specs.Outcome.{State, written, isWritten, gains}
-use Rattle.da.specs.Walk.{DaCtx, exprOutWrites, unlessRead, unlessOneRead, assigned, fromRight, fromEvent, callEffect, task, heldFacts, walkOf}
+use Rattle.da.specs.Walk.{DaCtx, StmtRow, exprOutWrites, unlessRead, unlessOneRead, assigned, fromRight, fromEvent, callEffect, task, heldFacts, walkOf}
 use Rattle.da_rows.specs.declared.Context.{Context}
 use Rattle.da_leaf.specs.declared.Construct.{Construct}
-use Rattle.da_leaf.specs.declared.Construct.the-variants.{Leaf, Controlled, Arm, Block, If, Case, For, While, Repeat, Forever}
+use Rattle.da_leaf.specs.declared.Construct.the-variants.{Written, Leaf, Controlled, Arm, Block, If, Case, For, While, Repeat, Forever}
 use Rattle.sheet_record.specs.Records.{marksOf}
 use Rattle.da_rows.specs.Tables.{stmtAt, factIn, factsIn, heldIn}
 use Rattle.da_rows.specs.Asking.{giveUpAt}
@@ -113,8 +113,41 @@ constructOf K.Null = Leaf
 constructOf K.Absent = Leaf
 constructOf K.NoStmt = Leaf
 
+-- the classes of statements that, where the local is written, do nothing but fall: S::Blocking, S::Fork, S::UserTaskCall, the arm `_` and
+-- the initialisers of S::Block
+abbrev pub staysWritten : StmtClass → Bool
+staysWritten K.Blocking = true
+staysWritten K.Decl = true
+staysWritten K.Fork = true
+staysWritten K.Null = true
+staysWritten K.Systask = true
+staysWritten K.Task = true
+staysWritten K.Unmodelled = true
+staysWritten K.Nonblocking = false
+staysWritten K.Return = false
+staysWritten K.Disable = false
+staysWritten K.Delayctrl = false
+staysWritten K.Eventctrl = false
+staysWritten K.Wait = false
+staysWritten K.If = false
+staysWritten K.Case = false
+staysWritten K.For = false
+staysWritten K.While = false
+staysWritten K.Repeat = false
+staysWritten K.Forever = false
+staysWritten K.Block = false
+staysWritten K.Match = false
+staysWritten K.Default = false
+staysWritten K.Absent = false
+staysWritten K.NoStmt = false
+
+-- from this state
+abbrev pub constructFrom : StmtClass → State → Construct
+constructFrom class a = cond (isWritten a && staysWritten class) Written (constructOf class)
+
 -- none, or one only after all else is asked
 abbrev pub asksFirst : Construct → Bool
+asksFirst Written = false
 asksFirst Leaf = true
 asksFirst Controlled = true
 asksFirst Arm = false
@@ -136,3 +169,20 @@ pub record LeafRow (rows : List ℕ) (class : StmtClass) (i end : ℕ) : Type 0 
 abbrev pub leafAt : DaCtx → List ℕ → StmtClass → ℕ → ℕ → State → DaResult
 leafAt ctx rows class i end a =
     walkOf ctx class (stmtAt ctx rows i end) (factsIn (ctx .local) rows (i + 1) end) (heldFacts (ctx .local) (tree rows (i + 1) end)) [] .walk a
+
+-- row i, with what stmt_no_ref answers of it
+abbrev pub vettedRow : DaCtx → List ℕ → ℕ → ℕ → Bool → StmtRow
+vettedRow ctx rows i end clear = record {
+  side = sideAt rows i;
+  lo = loAt rows i;
+  hi = hiAt rows i;
+  advances = stmtAt ctx rows i end .advances;
+  noRef = clear;
+  isJump = stmtAt ctx rows i end .isJump;
+  cannotEscape = stmtAt ctx rows i end .cannotEscape;
+}
+
+-- the same where stmt_no_ref answers that it refers
+abbrev pub referringAt : DaCtx → List ℕ → StmtClass → ℕ → ℕ → State → DaResult
+referringAt ctx rows class i end a =
+    walkOf ctx class (vettedRow ctx rows i end false) (factsIn (ctx .local) rows (i + 1) end) (heldFacts (ctx .local) (tree rows (i + 1) end)) [] .walk a

@@ -7,16 +7,16 @@ use da_rows::Evaluated;
 use kinds::ExprClass;
 use kinds::StmtClass;
 ghost use mathlib.Core.Path.{_≡_};
-ghost use mathlib.Core.Bool.{cond};
+ghost use mathlib.Core.Bool.{cond, _&&_};
 ghost use Prim.Native.Nat.{_+_, _*_, _<_};
 ghost use lib.ListN.{length};
-ghost use Rattle.table.specs.Rows.{Nested, RowAlone, tree};
-ghost use Rattle.kinds.specs.Named.{taskEffect};
+ghost use Rattle.table.specs.Rows.{Nested, RowAlone, tree, kindAt};
+ghost use Rattle.kinds.specs.Named.{taskEffect, stmtClass};
 ghost use Rattle.reads.specs.PathRows.{isLocal, isLoopJump};
 ghost use Rattle.da.specs.Walk.{callEffect};
 ghost use Rattle.sheet_record.specs.Records.{marksOf};
 ghost use Rattle.da_rows.specs.Tables.{untimed, factIn};
-ghost use Rattle.da_leaf.specs.Leaves.{onlyWrittenAt, isLident, targetAt, assignAt, eventAt, blockingAt, scheduled, nonblockingAt, returnAt, taskAt, disableAt, eventControlAt, constructOf, LeafRow, leafAt};
+ghost use Rattle.da_leaf.specs.Leaves.{onlyWrittenAt, isLident, targetAt, assignAt, eventAt, blockingAt, scheduled, nonblockingAt, returnAt, taskAt, disableAt, eventControlAt, constructOf, staysWritten, constructFrom, LeafRow, referringAt, leafAt};
 
 // A statement that is accepted only where the local is written.
 fn only_written(rows: &[u32], i: usize, reason: u32, assigned: bool) -> DaResult
@@ -260,8 +260,10 @@ fn da_eventctrl(rows: &[u32], local: usize, i: usize, end: usize, assigned: bool
     DaResult::Ok(DaOut::Falls(assigned))
 }
 
-// How da_stmt goes on at a row: it walks no statement, or first asks and then walks the body, or walks as the construct does.
+// How da_stmt goes on at a row: the local stays written, it walks no statement, or first asks and then walks the body, or walks as the
+// construct does.
 pub enum Construct {
+    Written,
     Leaf,
     Controlled,
     Arm,
@@ -274,7 +276,7 @@ pub enum Construct {
     Forever,
 }
 
-pub fn construct_of(class: StmtClass) -> Construct
+fn construct_of(class: StmtClass) -> Construct
     ensures { λ r. ⌜ r ≡ constructOf class ⌝ }
 {
     match class {
@@ -294,8 +296,46 @@ pub fn construct_of(class: StmtClass) -> Construct
     }
 }
 
-// Row i, of a class that walks no statement or one only after what is asked here.
-pub fn da_leaf(
+// Whether a statement of this class leaves a local that is written so, and does nothing else, whatever it holds: no row in it is looked
+// at. A nonblocking assignment is not one, which may give up, and neither are statements that jump or that hold statements.
+fn keeps_written(class: StmtClass, assigned: bool) -> bool
+    ensures { λ r. ⌜ r ≡ assigned && staysWritten class ⌝ }
+{
+    if !assigned {
+        return false;
+    }
+    match class {
+        StmtClass::Blocking => true,
+        StmtClass::Decl => true,
+        StmtClass::Fork => true,
+        StmtClass::Null => true,
+        StmtClass::Systask => true,
+        StmtClass::Task => true,
+        StmtClass::Unmodelled => true,
+        _ => false,
+    }
+}
+
+// The same of row i.
+pub fn stays_written(rows: &[u32], i: usize, assigned: bool) -> bool
+    requires { ⌜ 5 * i + 4 < length (now rows) ⌝ }
+    ensures { λ r. ⌜ r ≡ assigned && staysWritten (stmtClass (kindAt (now (rows .entry)) i)) ⌝ }
+{
+    keeps_written(kinds::stmt_class(table::kind_at(rows, i)), assigned)
+}
+
+// How da_stmt goes on at a statement of this class.
+pub fn construct_from(class: StmtClass, assigned: bool) -> Construct
+    ensures { λ r. ⌜ r ≡ constructFrom class assigned ⌝ }
+{
+    if keeps_written(class, assigned) {
+        return Construct::Written;
+    }
+    construct_of(class)
+}
+
+// Row i, of a class that walks no statement or one only after what is asked here, which stmt_no_ref does not let through.
+pub fn da_referring(
     rows: &[u32],
     names: &[u32],
     ctx: Context,
@@ -305,11 +345,8 @@ pub fn da_leaf(
     assigned: bool,
 ) -> DaResult
     requires { ⌜ LeafRow (now rows) class i end ⌝ }
-    ensures { λ r. ⌜ r ≡ leafAt (untimed ctx (now (names .entry))) (now (rows .entry)) class i end assigned ⌝ }
+    ensures { λ r. ⌜ r ≡ referringAt (untimed ctx (now (names .entry))) (now (rows .entry)) class i end assigned ⌝ }
 {
-    if reads::stmt_no_ref(rows, ctx.local, i, end) {
-        return DaResult::Ok(DaOut::Falls(assigned));
-    }
     match class {
         StmtClass::Blocking => da_blocking(rows, ctx.local, i, end, assigned),
         StmtClass::Nonblocking => da_nonblocking(rows, ctx, i, end, assigned),
@@ -326,4 +363,23 @@ pub fn da_leaf(
         StmtClass::Null => only_written(rows, i, 9, assigned),
         _ => DaResult::Ok(DaOut::Falls(assigned)),
     }
+}
+
+// Row i, of a class that walks no statement. Most are let through by stmt_no_ref, and are answered without a further call.
+pub fn da_leaf(
+    rows: &[u32],
+    names: &[u32],
+    ctx: Context,
+    class: StmtClass,
+    i: usize,
+    end: usize,
+    assigned: bool,
+) -> DaResult
+    requires { ⌜ LeafRow (now rows) class i end ⌝ }
+    ensures { λ r. ⌜ r ≡ leafAt (untimed ctx (now (names .entry))) (now (rows .entry)) class i end assigned ⌝ }
+{
+    if reads::stmt_no_ref(rows, ctx.local, i, end) {
+        return DaResult::Ok(DaOut::Falls(assigned));
+    }
+    da_referring(rows, names, ctx, class, i, end, assigned)
 }

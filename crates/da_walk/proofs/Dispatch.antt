@@ -3,23 +3,26 @@ use mathlib.Core.Path.{_≡_, refl, sym, ap, _∙_}
 use mathlib.Core.Bool.{Bool, true, false, cond, not, _&&_}
 use mathlib.Core.List.{List}
 use Prim.Native.Nat.{ℕ, _+_, _≤_, _<_}
-use Rattle.table.specs.Rows.{kindAt, tree, Nested, RowEnd, RowAlone}
+use Rattle.table.specs.Rows.{kindAt, endAt, tree, Nested, RowEnd, RowAlone}
 use Rattle.table.specs.Fold.{nth}
 use Rattle.table.proofs.Fold.{fold-none, fold-some}
 use Rattle.kinds.specs.declared.StmtClass.{StmtClass}
 use Rattle.kinds.specs.declared.StmtClass.the-variants as K
 use Rattle.kinds.specs.Named.{stmtClass}
+use Rattle.kinds.proofs.Below.{both-true, true-not-false}
 use Rattle.reads.specs.NoRef.{vetting, vetted, stmtNoRef}
 use Rattle.da.specs.declared.DaOut.the-variants.{Falls}
 use Rattle.da.specs.declared.DaResult.{DaResult}
 use Rattle.da.specs.declared.DaResult.the-variants.{Ok}
-use Rattle.da.specs.Outcome.{State, isWritten, giveUp, _▷_}
+use Rattle.da.specs.Outcome.{State, written, isWritten, giveUp, _▷_}
 use Rattle.da.specs.Walk.{DaCtx, Walk, noWalk, heldFacts, walkOf, walkAt, daStmt}
 use Rattle.da_rows.specs.declared.Context.{Context}
 use Rattle.da_rows.specs.Tables.{untimed, stmtAt, factsIn, factIn, heldIn}
 use Rattle.da_rows.proofs.Asking.{unless-then, unless-one-then}
 use Rattle.da_leaf.specs.declared.Construct.{Construct}
-use Rattle.da_leaf.specs.Leaves.{constructOf, asksFirst, LeafRow}
+use Rattle.da_leaf.specs.declared.Construct.the-variants.{Written}
+use Rattle.da_leaf.specs.Leaves.{constructOf, asksFirst, staysWritten, constructFrom, LeafRow}
+use Rattle.da_leaf.proofs.Written.{stays-falls}
 use Rattle.da_walk.specs.Constructs.{walksIn, constructAt}
 
 -- no row
@@ -62,39 +65,73 @@ module _ (c : Context) (rows names : List ℕ) (i end : ℕ) (a : State) where
   walked-by K.Eventctrl h = rw h (stop-then (not (isWritten a) && factIn (c .local) rows (i + 1) end .refers) 8 _ _ a _)
   walked-by K.Wait h = rw h (unless-then (factIn (c .local) rows (i + 1) end) a _)
 
--- by what stands in the code where it returns
-module _ (c : Context) (rows names : List ℕ) (from to end n : ℕ) (a : State) (class : StmtClass) (g : Nested rows from to) (h : from < to) (t : RowEnd rows from to end) (p : n ≡ kindAt rows from) (q : class ≡ stmtClass n) where
-  class-is : class ≡ stmtClass (kindAt rows from)
-  class-is = q ∙ rw p
-
+-- da_stmt of a row is what its construct comes to
+module _ (c : Context) (rows names : List ℕ) (from to end : ℕ) (a : State) (class : StmtClass) (g : Nested rows from to) (h : from < to) (e : end ≡ endAt rows from) (q : class ≡ stmtClass (kindAt rows from)) where
   vetted-as : stmtAt (untimed c names) rows from end .noRef ≡ vetted (vetting class) (c .local) (tree rows (from + 1) end)
   unfolding stmtNoRef
-  vetted-as = rw class-is
+  vetted-as = rw q
 
   row-walk : daStmt (untimed c names) (tree rows from to) a ≡ constructAt (untimed c names) rows class from end a (constructOf class)
   unfolding walkAt
-  row-walk = ap (λ (ws : List Walk). nth noWalk 0 ws .walk a) (fold-some (walkAt (untimed c names)) g h) ∙ rw (← t .is, ← class-is) (walked-by c rows names from end a class vetted-as)
+  row-walk = ap (λ (ws : List Walk). nth noWalk 0 ws .walk a) (fold-some (walkAt (untimed c names)) g h) ∙ rw (← e, ← q) (walked-by c rows names from end a class vetted-as)
 
-  pub inner-by : (construct named : Construct) (r : DaResult)
-      → construct ≡ constructOf class
-      → construct ≡ named
-      → r ≡ constructAt (untimed c names) rows class from end a named
-      → r ≡ daStmt (untimed c names) (tree rows from to) a
-  inner-by construct named r e s v = v ∙ sym (row-walk ∙ rw (← e, s))
+  -- where a written local stays written, it falls
+  row-stays : (a && staysWritten class ≡ true) → Ok (Falls a) ≡ daStmt (untimed c names) (tree rows from to) a
+  row-stays s =
+      let both = both-true a (staysWritten class) s in
+      let falls = stays-falls c rows names from end class (both .1) in
+      sym (row-walk ∙ rw (falls .0, both .0) (falls .1))
 
--- what da_leaf asks of the row
-pub leaf-row : (rows : List ℕ) (from to end n : ℕ) (class : StmtClass) (construct named : Construct)
+  row-from : daStmt (untimed c names) (tree rows from to) a ≡ constructAt (untimed c names) rows class from end a (constructFrom class a)
+  row-from = go (a && staysWritten class) refl
+    where
+      go : (b : Bool) → a && staysWritten class ≡ b → daStmt (untimed c names) (tree rows from to) a ≡ constructAt (untimed c names) rows class from end a (cond b Written (constructOf class))
+      go true s = sym (row-stays s)
+      go false s = row-walk
+
+-- da_block asks for a statement that a written local stays written in
+pub inner-stays : (c : Context) (rows names : List ℕ) (from to : ℕ) (a b : State)
+    → Nested rows from to
+    → from < to
+    → b ≡ a && staysWritten (stmtClass (kindAt rows from))
+    → b ≡ true
+    → Ok (Falls a) ≡ daStmt (untimed c names) (tree rows from to) a
+inner-stays c rows names from to a b g h e t = row-stays c rows names from to (endAt rows from) a (stmtClass (kindAt rows from)) g h refl refl (sym e ∙ t)
+
+-- by what stands in the code where it returns
+pub inner-by : (c : Context) (rows names : List ℕ) (from to end n : ℕ) (a : State) (class : StmtClass) (construct named : Construct) (r : DaResult)
+    → Nested rows from to
+    → from < to
     → RowEnd rows from to end
     → n ≡ kindAt rows from
     → class ≡ stmtClass n
-    → construct ≡ constructOf class
+    → construct ≡ constructFrom class a
+    → construct ≡ named
+    → r ≡ constructAt (untimed c names) rows class from end a named
+    → r ≡ daStmt (untimed c names) (tree rows from to) a
+inner-by c rows names from to end n a class construct named r g h t p q e s v = v ∙ sym (row-from c rows names from to end a class g h (t .is) (q ∙ rw p) ∙ rw (← e, s))
+
+-- a row that first asks does so from any state
+asks-first : (class : StmtClass) (a : State) (named : Construct) → constructFrom class a ≡ named → asksFirst named ≡ true → asksFirst (constructOf class) ≡ true
+asks-first class a named e v = go (a && staysWritten class) refl
+  where
+    go : (b : Bool) → a && staysWritten class ≡ b → asksFirst (constructOf class) ≡ true
+    go true s = true-not-false (rw (← e, s) at (sym v))
+    go false s = let z : constructOf class ≡ named = rw s at e in rw z v
+
+-- what da_leaf asks of the row
+pub leaf-row : (rows : List ℕ) (from to end n : ℕ) (a : State) (class : StmtClass) (construct named : Construct)
+    → RowEnd rows from to end
+    → n ≡ kindAt rows from
+    → class ≡ stmtClass n
+    → construct ≡ constructFrom class a
     → construct ≡ named
     → asksFirst named ≡ true
     → LeafRow rows class from end
-leaf-row rows from to end n class construct named t p q e s v = record {
+leaf-row rows from to end n a class construct named t p q e s v = record {
   row = record { is = t .is; after = t .after; alone = t .alone; children = t .children };
   is = q ∙ rw p;
-  leaf = rw (← e, s) v;
+  leaf = asks-first class a named (sym e ∙ s) v;
 }
 
 -- and what the loops ask

@@ -12,7 +12,7 @@ use Rattle.expr_effect.specs.Law.{noFacts}
 use Rattle.loops.specs.Escape.{cannotEscapes}
 use Rattle.loops.specs.Time.{advancesTime}
 use Rattle.da.specs.declared.DaOut.{DaOut}
-use Rattle.da.specs.declared.DaOut.the-variants.{Jumps}
+use Rattle.da.specs.declared.DaOut.the-variants.{Falls, Jumps}
 use Rattle.da.specs.declared.DaResult.{DaResult}
 use Rattle.da.specs.declared.DaResult.the-variants.{Ok}
 use Rattle.da.specs.Outcome.{State, merge, _▷_}
@@ -21,8 +21,8 @@ use Rattle.da_rows.specs.declared.States.{States}
 use Rattle.da_rows.specs.Tables.{stmtAt, factsIn, factIn}
 use Rattle.da_rows.specs.Parts.{caseOut}
 use Rattle.da_leaf.specs.declared.Construct.{Construct}
-use Rattle.da_leaf.specs.declared.Construct.the-variants.{Leaf, Controlled, Arm, Block, If, Case, For, While, Repeat, Forever}
-use Rattle.da_leaf.specs.Leaves.{leafAt}
+use Rattle.da_leaf.specs.declared.Construct.the-variants.{Written, Leaf, Controlled, Arm, Block, If, Case, For, While, Repeat, Forever}
+use Rattle.da_leaf.specs.Leaves.{leafAt, referringAt}
 
 -- the walks of the rows from `from` up to `to`: each sibling's
 abbrev pub walksIn : DaCtx → List ℕ → ℕ → ℕ → List Walk
@@ -71,25 +71,31 @@ armsIn ctx rows from to after = armsFrom Jumps false (walksIn ctx rows from to) 
 abbrev pub armIn : DaCtx → List ℕ → ℕ → ℕ → State → DaResult
 armIn ctx rows from to after = unlessOneRead (walkIn ctx rows from to .labels) after (walkIn ctx rows from to .walk after)
 
--- S::DelayCtrl, S::EventCtrl, S::Wait in row i, which ends at `end`: what is asked first, then the body
+-- S::DelayCtrl, S::EventCtrl, S::Wait in row i, which ends at `end`, and which stmt_no_ref never lets through: what is asked first, then
+-- the body
 abbrev pub controlledAt : DaCtx → List ℕ → StmtClass → ℕ → ℕ → State → DaResult
-controlledAt ctx rows class i end a = leafAt ctx rows class i end a ▷ λ out. nth noWalk 1 (walksIn ctx rows (i + 1) end) .walk a
+controlledAt ctx rows class i end a = referringAt ctx rows class i end a ▷ λ out. nth noWalk 1 (walksIn ctx rows (i + 1) end) .walk a
 
--- a loop's step and body are rows after its row
-pub record LoopAt (rows : List ℕ) (row step body end : ℕ) : Type 0 where
-  pub below : row < step
-  pub steps : Nested rows step body
+-- a loop's body is rows after its row
+pub record LoopAt (rows : List ℕ) (row body end : ℕ) : Type 0 where
+  pub below : row < body
   pub bodies : Nested rows body end
 
--- every loop's rounds, from the state after its condition and the one where a round starts
-abbrev pub roundsAt : DaCtx → List ℕ → (row step body end : ℕ) → State → State → DaResult
-roundsAt ctx rows row step body end after inBody =
-    rounds (stmtAt ctx rows row end) (nth true 0 (cannotEscapes (tree rows body end))) (walkIn ctx rows body end) (walkIn ctx rows step body) after inBody
+-- every loop's rounds but for the step, from the state after its condition and the one where a round starts
+abbrev pub roundsAt : DaCtx → List ℕ → (row body end : ℕ) → State → State → DaResult
+roundsAt ctx rows row body end after inBody =
+    rounds (stmtAt ctx rows row end) (nth true 0 (cannotEscapes (tree rows body end))) (walkIn ctx rows body end) noWalk after inBody
 
--- S::While, and S::For after its init, from the condition on
-abbrev pub conditionAt : DaCtx → List ℕ → (row step body end : ℕ) → ℕ → State → DaResult
-conditionAt ctx rows row step body end test a =
-    whileTrue (stmtAt ctx rows row end) (nth true 0 (cannotEscapes (tree rows body end))) (factIn (ctx .local) rows test end) (walkIn ctx rows body end) (walkIn ctx rows step body) a
+-- those of a for, whose step stands before its body
+pub record ForAt (rows : List ℕ) (row step body end : ℕ) : Type 0 where
+  pub below : row < step
+  pub steps : Nested rows step body
+  pub loop : LoopAt rows row body end
+
+-- with the step
+abbrev pub forRoundsAt : DaCtx → List ℕ → (row step body end : ℕ) → State → State → DaResult
+forRoundsAt ctx rows row step body end after inBody =
+    rounds (stmtAt ctx rows row end) (nth true 0 (cannotEscapes (tree rows body end))) (walkIn ctx rows body end) (walkIn ctx rows step body) after inBody
 
 -- S::For in row i, which ends at `end`
 abbrev pub forAt : DaCtx → List ℕ → ℕ → ℕ → State → DaResult
@@ -112,6 +118,7 @@ foreverAt ctx rows i end a = rounds (stmtAt ctx rows i end) (nth true 0 (cannotE
 
 -- da_stmt of row i, by how its class goes on
 abbrev pub constructAt : DaCtx → List ℕ → StmtClass → ℕ → ℕ → State → Construct → DaResult
+constructAt ctx rows class i end a Written = Ok (Falls a)
 constructAt ctx rows class i end a Leaf = leafAt ctx rows class i end a
 constructAt ctx rows class i end a Controlled = controlledAt ctx rows class i end a
 constructAt ctx rows class i end a Arm = daStmt ctx (tree rows (i + 1) end) a

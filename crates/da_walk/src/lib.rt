@@ -16,7 +16,7 @@ ghost use Rattle.soundness.specs.Demand3.{WalkMeans};
 ghost use Rattle.sheet_record.specs.Records.{marksOf};
 ghost use Rattle.da_rows.specs.Tables.{untimed};
 ghost use Rattle.da_leaf.specs.Leaves.{LeafRow};
-ghost use Rattle.da_walk.specs.Constructs.{blockIn, ifIn, branchesIn, elseIn, caseIn, armsIn, armIn, controlledAt, LoopAt, roundsAt, forAt, whileAt, repeatAt, foreverAt, StatementIn, advancesAlone};
+ghost use Rattle.da_walk.specs.Constructs.{blockIn, ifIn, branchesIn, elseIn, caseIn, armsIn, armIn, controlledAt, LoopAt, roundsAt, ForAt, forRoundsAt, forAt, whileAt, repeatAt, foreverAt, StatementIn, advancesAlone};
 
 // The walk of the first of the rows from `from` up to `to`. Whether time can advance has been asked of a statement that holds it.
 fn da_inner(
@@ -35,8 +35,9 @@ fn da_inner(
     }
     let end = table::row_end(rows, from, to);
     let class = kinds::stmt_class(table::kind_at(rows, from));
-    let construct = da_leaf::construct_of(class);
+    let construct = da_leaf::construct_from(class, assigned);
     match construct {
+        Construct::Written => DaResult::Ok(DaOut::Falls(assigned)),
         Construct::Leaf => da_leaf::da_leaf(rows, names, ctx, class, from, end, assigned),
         Construct::Controlled => da_controlled(rows, names, ctx, class, from, end, assigned),
         Construct::Arm => da_inner(rows, names, ctx, from + 1, end, assigned),
@@ -63,7 +64,7 @@ fn da_controlled(
     requires { ⌜ LeafRow (now rows) class i end ⌝ }
     ensures { λ r. ⌜ r ≡ controlledAt (untimed ctx (now (names .entry))) (now (rows .entry)) class i end assigned ⌝ }
 {
-    let r = da_leaf::da_leaf(rows, names, ctx, class, i, end, assigned);
+    let r = da_leaf::da_referring(rows, names, ctx, class, i, end, assigned);
     let DaResult::Ok(out) = r else {
         return r;
     };
@@ -71,7 +72,8 @@ fn da_controlled(
     da_inner(rows, names, ctx, body, end, assigned)
 }
 
-// The statements of a block, the rows from `from` up to `to`, each from where the one before it fell.
+// The statements of a block, the rows from `from` up to `to`, each from where the one before it fell. Those that a written local stays
+// written in are passed over.
 fn da_block(
     rows: &[u32],
     names: &[u32],
@@ -86,15 +88,19 @@ fn da_block(
     let mut child = from;
     let mut a = assigned;
     while child < to {
-        let r = da_inner(rows, names, ctx, child, to, a);
-        let DaResult::Ok(out) = r else {
-            return r;
-        };
-        let DaOut::Falls(next) = out else {
-            return r;
-        };
-        a = next;
-        child = table::row_end(rows, child, to);
+        if da_leaf::stays_written(rows, child, a) {
+            child = table::row_end(rows, child, to);
+        } else {
+            let r = da_inner(rows, names, ctx, child, to, a);
+            let DaResult::Ok(out) = r else {
+                return r;
+            };
+            let DaOut::Falls(next) = out else {
+                return r;
+            };
+            a = next;
+            child = table::row_end(rows, child, to);
+        }
     }
     DaResult::Ok(DaOut::Falls(a))
 }
@@ -241,10 +247,31 @@ fn da_arm(
     da_inner(rows, names, ctx, from, to, after)
 }
 
-// The rounds of the loop in row `row`: its body, then its step, both from where a round starts. The step is what stands between `step`
-// and `body`, which is nothing where a loop has none, and the body is the first row from there on. Four numbers and no struct: each
-// struct that is passed takes room on the stack of every loop within a loop.
+// The rounds of the loop in row `row` but for its step: its body is the first of the rows from `body` up to `end`. Numbers and no struct:
+// each struct that is passed takes room on the stack of every loop within a loop.
 fn da_rounds(
+    rows: &[u32],
+    names: &[u32],
+    ctx: Context,
+    row: usize,
+    body: usize,
+    end: usize,
+    after: bool,
+    in_body: bool,
+) -> DaResult
+    requires { ⌜ LoopAt (now rows) row body end ⌝ }
+    ensures { λ r. ⌜ r ≡ roundsAt (untimed ctx (now (names .entry))) (now (rows .entry)) row body end after «in_body» ⌝ }
+{
+    let r = da_inner(rows, names, ctx, body, end, in_body);
+    let DaResult::Ok(body_out) = r else {
+        return r;
+    };
+    let wrote = da_rows::rounds_write(rows, row, body, end, body_out, after);
+    DaResult::Ok(DaOut::Falls(wrote))
+}
+
+// The rounds of the for in row `row`. Its step is the first of the rows from `step` up to `body`, and starts where the body starts.
+fn da_for_rounds(
     rows: &[u32],
     names: &[u32],
     ctx: Context,
@@ -255,19 +282,18 @@ fn da_rounds(
     after: bool,
     in_body: bool,
 ) -> DaResult
-    requires { ⌜ LoopAt (now rows) row step body end ⌝ }
-    ensures { λ r. ⌜ r ≡ roundsAt (untimed ctx (now (names .entry))) (now (rows .entry)) row step body end after «in_body» ⌝ }
+    requires { ⌜ ForAt (now rows) row step body end ⌝ }
+    ensures { λ r. ⌜ r ≡ forRoundsAt (untimed ctx (now (names .entry))) (now (rows .entry)) row step body end after «in_body» ⌝ }
 {
-    let r = da_inner(rows, names, ctx, body, end, in_body);
-    let DaResult::Ok(body_out) = r else {
+    let r = da_rounds(rows, names, ctx, row, body, end, after, in_body);
+    let DaResult::Ok(out) = r else {
         return r;
     };
     let s = da_inner(rows, names, ctx, step, body, in_body);
     let DaResult::Ok(step_out) = s else {
         return s;
     };
-    let wrote = da_rows::rounds_write(rows, row, body, end, body_out, after);
-    DaResult::Ok(DaOut::Falls(wrote))
+    r
 }
 
 // A for in row i: its init, then its condition, and rounds where that is true.
@@ -292,7 +318,7 @@ fn da_for(
     let e = da_rows::evaluate(rows, ctx.local, test, end, da::state(out));
     match e {
         Evaluated::Read(stop) => DaResult::Err(stop),
-        Evaluated::To(states) => da_rounds(
+        Evaluated::To(states) => da_for_rounds(
             rows,
             names,
             ctx,
@@ -327,7 +353,6 @@ fn da_while(
             ctx,
             i,
             body,
-            body,
             end,
             states.after,
             states.when_true,
@@ -357,7 +382,6 @@ fn da_repeat(
             ctx,
             i,
             body,
-            body,
             end,
             states.after,
             states.after,
@@ -376,7 +400,7 @@ fn da_forever(
     requires { ⌜ RowAlone (now rows) i end ⌝ }
     ensures { λ r. ⌜ r ≡ foreverAt (untimed ctx (now (names .entry))) (now (rows .entry)) i end assigned ⌝ }
 {
-    da_rounds(rows, names, ctx, i, i + 1, i + 1, end, assigned, assigned)
+    da_rounds(rows, names, ctx, i, i + 1, end, assigned, assigned)
 }
 
 // Whether the net is shared and time can advance in the first of the rows from `from` up to `to`.

@@ -5,7 +5,7 @@ use mathlib.Core.Bool.{Bool, true, false, _&&_, _||_, not}
 use mathlib.Core.List.{List, [], _∷_}
 use native.Mathlib.Omega.{arith}
 use lib.Dec.{eqb, leb}
-use borrow.Author.Tests.{ne-eqb, eqb-true}
+use borrow.Author.Tests.{le-leb, lt-leb, ne-eqb, eqb-true}
 use denote.Enum.Declared.{tagOf}
 use types.Run.{OneOf}
 use Rattle.table.specs.Rows.{kindAt, sideAt, endAt, tree, Nested}
@@ -74,17 +74,17 @@ next-nested {i = i} g h = later g (i + 1) (omega arith) (omega arith)
 
 -- the loops: what they keep is that the answer is that of the rows from i on
 module _ (rows : List ℕ) (from to i : ℕ) (v : cannotEscape (tree rows from to) ≡ cannotEscape (tree rows i to)) where
-  pub escape-done : to ≤ i → true ≡ cannotEscape (tree rows from to)
+  pub escape-done : to ≤ i → leb to i ≡ cannotEscape (tree rows from to)
   unfolding cannotEscape cannotEscapeAt
-  escape-done h = sym (v ∙ flat-none by-and (λ k s cs. not (transfers (stmtClass k))) rows i to h)
+  escape-done h = le-leb to i h ∙ sym (v ∙ flat-none by-and (λ k s cs. not (transfers (stmtClass k))) rows i to h)
 
   module _ (g : Nested rows i to) (h : i < to) (b : Bool) (e : b ≡ transfers (stmtClass (kindAt rows i))) where
     escape-row : cannotEscape (tree rows from to) ≡ not b && cannotEscape (tree rows (i + 1) to)
     unfolding cannotEscape cannotEscapeAt
     escape-row = v ∙ rw e (flat-step by-and (λ k s cs. not (transfers (stmtClass k))) g h)
 
-    pub escape-hit : b ≡ true → false ≡ cannotEscape (tree rows from to)
-    escape-hit y = sym (escape-row ∙ rw y)
+    pub escape-hit : b ≡ true → leb to i ≡ cannotEscape (tree rows from to)
+    escape-hit y = lt-leb to i h ∙ sym (escape-row ∙ rw y)
 
     pub escape-miss : b ≡ false → cannotEscape (tree rows from to) ≡ cannotEscape (tree rows (i + 1) to)
     escape-miss y = escape-row ∙ rw y

@@ -4,6 +4,7 @@ use kinds::StmtClass;
 ghost use mathlib.Core.Path.{_≡_};
 ghost use Prim.Native.Nat.{_+_, _*_, _<_};
 ghost use lib.ListN.{length};
+ghost use lib.Dec.{leb};
 ghost use Rattle.kinds.specs.Named.{stmtClass};
 ghost use Rattle.table.specs.Rows.{Nested, tree, kindAt, sideAt};
 ghost use Rattle.loops.specs.Escape.{transfers, cannotEscape, EscapeTold};
@@ -21,20 +22,29 @@ fn transfers_control(rows: &[u32], i: usize) -> bool
     }
 }
 
+// The first of the rows from `from` up to `to` that transfers control; `to`, or `from` where it is past it, if none does. A number and no
+// bool: a loop's body is scanned once for each loop around it, and its rows then cost least.
+fn first_transfer(rows: &[u32], from: usize, to: usize) -> usize
+    requires { ⌜ Nested (now rows) from to ⌝ }
+    ensures { λ r. ⌜ leb to r ≡ cannotEscape (tree (now (rows .entry)) from to) ⌝ }
+{
+    let mut i = from;
+    while i < to {
+        if transfers_control(rows, i) {
+            return i;
+        }
+        i += 1;
+    }
+    i
+}
+
 // stmt_cannot_escape: no row from `from` up to `to` transfers control.
 pub fn stmt_cannot_escape(rows: &[u32], from: usize, to: usize) -> bool
     requires { ⌜ Nested (now rows) from to ⌝ }
     ensures { λ r. ⌜ r ≡ cannotEscape (tree (now (rows .entry)) from to) ⌝ }
     ensures arms { λ r. ⌜ EscapeTold (now (rows .entry)) from to r ⌝ }
 {
-    let mut i = from;
-    while i < to {
-        if transfers_control(rows, i) {
-            return false;
-        }
-        i += 1;
-    }
-    true
+    to <= first_transfer(rows, from, to)
 }
 
 // Whether row i itself lets time pass, a task by whether it suspends.

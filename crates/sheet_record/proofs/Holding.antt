@@ -1,9 +1,11 @@
 -- What record_held and marks_fit answer, from what stands in the code where they return.
-use Prim.Native.Nat.{ℕ, suc, _-_, _*_, _≤_, _<_}
+use Prim.Native.Nat.{ℕ, zero, suc, _+_, _*_, _≤_, _<_}
 use mathlib.Core.Path.{_≡_, refl, sym, _∙_}
-use mathlib.Core.Bool.{Bool, true, false, not, _&&_}
+use mathlib.Core.Bool.{Bool, true, false, not, _&&_, and-false}
 use mathlib.Core.List.{List}
+use mathlib.Core.Logic.{⊎-elim}
 use native.Mathlib.Omega.{arith}
+use native.Mathlib.Nat.{eq-or-lt-of-le}
 use native.Mathlib.Numerals.{add-one}
 use lib.Dec.{leb}
 use borrow.Author.Needs.{needs}
@@ -27,28 +29,35 @@ module _ (r : Record) (rowRoom nameRoom : ℕ) (b : Bool) (e : b ≡ recordFits 
     unfolding recordHeld
     names-decide d k v = v ∙ rw (← e, not-false b h, ← f, not-false c k)
 
--- marks_fit: what its loop keeps is that the marks of the names below decide
-pub record MarksLeft (names : List ℕ) (count left : ℕ) : Type 0 where
-  pub within : left ≤ count
-  pub same : marksFit names count ≡ marksFit names left
+-- marks_fit: what its loop keeps is that the marks looked at fit
+pub record MarksSeen (names : List ℕ) (count i : ℕ) : Type 0 where
+  pub within : i ≤ count
+  pub fit : marksFit names i ≡ true
 
-pub marks-start : (names : List ℕ) (count : ℕ) → MarksLeft names count count
-marks-start names count = record { within = omega arith; same = refl }
+pub marks-start : (names : List ℕ) (count : ℕ) → MarksSeen names count 0
+unfolding marksFit
+marks-start names count = record { within = omega arith; fit = refl }
 
-module _ (names : List ℕ) (count left : ℕ) (w : MarksLeft names count left) where
-  pub marks-done : left ≤ 0 → true ≡ marksFit names count
-  unfolding marksFit
-  marks-done h = let z : left ≡ 0 = omega arith in sym (w .same ∙ rw z)
+-- a mark that does not fit, among so many
+wrong-mark : (names : List ℕ) (i n : ℕ) → i < n → 1 < markAt names i → marksFit names n ≡ false
+unfolding marksFit
+wrong-mark names i zero h k = absurd (omega arith)
+wrong-mark names i (suc n) h k =
+    ⊎-elim
+    (λ (e : i ≡ n). rw (lt-leb (markAt names n) 1 (rw e at k)))
+    (λ (l : i < n). rw (wrong-mark names i n l k) (and-false (leb (markAt names n) 1)))
+    (eq-or-lt-of-le (omega arith))
 
-  module _ (m n : ℕ) (h : 0 < left) (p : n ≡ left - 1) (q : m ≡ markAt names n) where
-    one-more : marksFit names left ≡ leb m 1 && marksFit names n
-    unfolding marksFit
-    one-more = let z : left ≡ suc n = (omega arith) ∙ add-one n in rw (z, q)
+module _ (names : List ℕ) (count i : ℕ) (w : MarksSeen names count i) where
+  pub marks-done : count ≤ i → true ≡ marksFit names count
+  marks-done h = let z : count ≡ i = omega (arith, w .within) in sym (rw z (w .fit))
 
+  module _ (m : ℕ) (h : i < count) (q : m ≡ markAt names i) where
     pub marks-bad : 1 < m → false ≡ marksFit names count
-    marks-bad k = sym (w .same ∙ one-more ∙ rw (lt-leb m 1 k))
+    marks-bad k = sym (wrong-mark names i count h (rw q at k))
 
-    pub marks-next : m ≤ 1 → MarksLeft names count n
-    marks-next k = record { within = omega (arith, w .within); same = w .same ∙ one-more ∙ rw (le-leb m 1 k) }
+    pub marks-next : m ≤ 1 → MarksSeen names count (i + 1)
+    unfolding marksFit
+    marks-next k = record { within = omega arith; fit = rw (add-one i, ← q, le-leb m 1 k) (w .fit) }
 
 pub ruleset holding = (needs, few-names, few-rows, record-wrong, rows-short, names-decide, marks-start, marks-done, marks-bad, marks-next)

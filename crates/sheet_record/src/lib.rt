@@ -94,12 +94,12 @@ pub fn marks_fit(names: &[u32], count: usize) -> bool
     requires { ⌜ 3 * count ≤ length (now names) ⌝ }
     ensures { λ r. ⌜ r ≡ marksFit (now (names .entry)) count ⌝ }
 {
-    let mut left = count;
-    while 0 < left {
-        left -= 1;
-        if 1 < mark_at(names, left) {
+    let mut i = 0;
+    while i < count {
+        if 1 < mark_at(names, i) {
             return false;
         }
+        i += 1;
     }
     true
 }

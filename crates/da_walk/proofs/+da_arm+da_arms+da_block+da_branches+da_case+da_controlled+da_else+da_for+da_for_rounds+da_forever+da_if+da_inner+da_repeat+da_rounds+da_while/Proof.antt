@@ -4,56 +4,61 @@ use Rattle.da_walk.specs.Constructs.{walksIn, blockIn, armsFrom, armsIn}
 use borrow.Author.Needs.{needs}
 use Rattle.table.proofs.Loops.{Goes}
 use Rattle.da_walk.proofs.Dispatch.{dispatch}
-use Rattle.da_walk.proofs.Branching.{branching}
+use Rattle.da_walk.proofs.Branching.{branching, passing-over}
 use Rattle.da_walk.proofs.Looping.{looping}
 use borrow.Fn.Kinds.{In}
 use borrow.Fn.PlainCycle.{Measures, is, falls, and}
 use Rattle.da_walk.proofs.da_arm.Reads as da-arm
 use Rattle.da_walk.proofs.da_arm.Kinds as da-arm-kinds
-use Rattle.da_walk.proofs.+da_arm+da_arms+da_block+da_branches+da_case+da_controlled+da_else+da_for+da_forever+da_if+da_inner+da_repeat+da_rounds+da_while.Lts-da_arm as da-arm-lts
+use Rattle.da_walk.proofs.+da_arm+da_arms+da_block+da_branches+da_case+da_controlled+da_else+da_for+da_for_rounds+da_forever+da_if+da_inner+da_repeat+da_rounds+da_while.Lts-da_arm as da-arm-lts
 use Rattle.da_walk.proofs.da_arms.Reads as da-arms
 use Rattle.da_walk.proofs.da_arms.Kinds as da-arms-kinds
-use Rattle.da_walk.proofs.+da_arm+da_arms+da_block+da_branches+da_case+da_controlled+da_else+da_for+da_forever+da_if+da_inner+da_repeat+da_rounds+da_while.Lts-da_arms as da-arms-lts
+use Rattle.da_walk.proofs.+da_arm+da_arms+da_block+da_branches+da_case+da_controlled+da_else+da_for+da_for_rounds+da_forever+da_if+da_inner+da_repeat+da_rounds+da_while.Lts-da_arms as da-arms-lts
 use Rattle.da_walk.proofs.da_block.Reads as da-block
 use Rattle.da_walk.proofs.da_block.Kinds as da-block-kinds
-use Rattle.da_walk.proofs.+da_arm+da_arms+da_block+da_branches+da_case+da_controlled+da_else+da_for+da_forever+da_if+da_inner+da_repeat+da_rounds+da_while.Lts-da_block as da-block-lts
+use Rattle.da_walk.proofs.+da_arm+da_arms+da_block+da_branches+da_case+da_controlled+da_else+da_for+da_for_rounds+da_forever+da_if+da_inner+da_repeat+da_rounds+da_while.Lts-da_block as da-block-lts
 use Rattle.da_walk.proofs.da_branches.Reads as da-branches
 use Rattle.da_walk.proofs.da_branches.Kinds as da-branches-kinds
-use Rattle.da_walk.proofs.+da_arm+da_arms+da_block+da_branches+da_case+da_controlled+da_else+da_for+da_forever+da_if+da_inner+da_repeat+da_rounds+da_while.Lts-da_branches as da-branches-lts
+use Rattle.da_walk.proofs.+da_arm+da_arms+da_block+da_branches+da_case+da_controlled+da_else+da_for+da_for_rounds+da_forever+da_if+da_inner+da_repeat+da_rounds+da_while.Lts-da_branches as da-branches-lts
 use Rattle.da_walk.proofs.da_case.Reads as da-case
 use Rattle.da_walk.proofs.da_case.Kinds as da-case-kinds
-use Rattle.da_walk.proofs.+da_arm+da_arms+da_block+da_branches+da_case+da_controlled+da_else+da_for+da_forever+da_if+da_inner+da_repeat+da_rounds+da_while.Lts-da_case as da-case-lts
+use Rattle.da_walk.proofs.+da_arm+da_arms+da_block+da_branches+da_case+da_controlled+da_else+da_for+da_for_rounds+da_forever+da_if+da_inner+da_repeat+da_rounds+da_while.Lts-da_case as da-case-lts
 use Rattle.da_walk.proofs.da_controlled.Reads as da-controlled
 use Rattle.da_walk.proofs.da_controlled.Kinds as da-controlled-kinds
-use Rattle.da_walk.proofs.+da_arm+da_arms+da_block+da_branches+da_case+da_controlled+da_else+da_for+da_forever+da_if+da_inner+da_repeat+da_rounds+da_while.Lts-da_controlled as da-controlled-lts
+use Rattle.da_walk.proofs.+da_arm+da_arms+da_block+da_branches+da_case+da_controlled+da_else+da_for+da_for_rounds+da_forever+da_if+da_inner+da_repeat+da_rounds+da_while.Lts-da_controlled as da-controlled-lts
 use Rattle.da_walk.proofs.da_else.Reads as da-else
 use Rattle.da_walk.proofs.da_else.Kinds as da-else-kinds
-use Rattle.da_walk.proofs.+da_arm+da_arms+da_block+da_branches+da_case+da_controlled+da_else+da_for+da_forever+da_if+da_inner+da_repeat+da_rounds+da_while.Lts-da_else as da-else-lts
+use Rattle.da_walk.proofs.+da_arm+da_arms+da_block+da_branches+da_case+da_controlled+da_else+da_for+da_for_rounds+da_forever+da_if+da_inner+da_repeat+da_rounds+da_while.Lts-da_else as da-else-lts
 use Rattle.da_walk.proofs.da_for.Reads as da-for
 use Rattle.da_walk.proofs.da_for.Kinds as da-for-kinds
-use Rattle.da_walk.proofs.+da_arm+da_arms+da_block+da_branches+da_case+da_controlled+da_else+da_for+da_forever+da_if+da_inner+da_repeat+da_rounds+da_while.Lts-da_for as da-for-lts
+use Rattle.da_walk.proofs.+da_arm+da_arms+da_block+da_branches+da_case+da_controlled+da_else+da_for+da_for_rounds+da_forever+da_if+da_inner+da_repeat+da_rounds+da_while.Lts-da_for as da-for-lts
+use Rattle.da_walk.proofs.da_for_rounds.Reads as da-for-rounds
+use Rattle.da_walk.proofs.da_for_rounds.Kinds as da-for-rounds-kinds
+use Rattle.da_walk.proofs.+da_arm+da_arms+da_block+da_branches+da_case+da_controlled+da_else+da_for+da_for_rounds+da_forever+da_if+da_inner+da_repeat+da_rounds+da_while.Lts-da_for_rounds as da-for-rounds-lts
 use Rattle.da_walk.proofs.da_forever.Reads as da-forever
 use Rattle.da_walk.proofs.da_forever.Kinds as da-forever-kinds
-use Rattle.da_walk.proofs.+da_arm+da_arms+da_block+da_branches+da_case+da_controlled+da_else+da_for+da_forever+da_if+da_inner+da_repeat+da_rounds+da_while.Lts-da_forever as da-forever-lts
+use Rattle.da_walk.proofs.+da_arm+da_arms+da_block+da_branches+da_case+da_controlled+da_else+da_for+da_for_rounds+da_forever+da_if+da_inner+da_repeat+da_rounds+da_while.Lts-da_forever as da-forever-lts
 use Rattle.da_walk.proofs.da_if.Reads as da-if
 use Rattle.da_walk.proofs.da_if.Kinds as da-if-kinds
-use Rattle.da_walk.proofs.+da_arm+da_arms+da_block+da_branches+da_case+da_controlled+da_else+da_for+da_forever+da_if+da_inner+da_repeat+da_rounds+da_while.Lts-da_if as da-if-lts
+use Rattle.da_walk.proofs.+da_arm+da_arms+da_block+da_branches+da_case+da_controlled+da_else+da_for+da_for_rounds+da_forever+da_if+da_inner+da_repeat+da_rounds+da_while.Lts-da_if as da-if-lts
 use Rattle.da_walk.proofs.da_inner.Reads as da-inner
 use Rattle.da_walk.proofs.da_inner.Kinds as da-inner-kinds
-use Rattle.da_walk.proofs.+da_arm+da_arms+da_block+da_branches+da_case+da_controlled+da_else+da_for+da_forever+da_if+da_inner+da_repeat+da_rounds+da_while.Lts-da_inner as da-inner-lts
+use Rattle.da_walk.proofs.+da_arm+da_arms+da_block+da_branches+da_case+da_controlled+da_else+da_for+da_for_rounds+da_forever+da_if+da_inner+da_repeat+da_rounds+da_while.Lts-da_inner as da-inner-lts
 use Rattle.da_walk.proofs.da_repeat.Reads as da-repeat
 use Rattle.da_walk.proofs.da_repeat.Kinds as da-repeat-kinds
-use Rattle.da_walk.proofs.+da_arm+da_arms+da_block+da_branches+da_case+da_controlled+da_else+da_for+da_forever+da_if+da_inner+da_repeat+da_rounds+da_while.Lts-da_repeat as da-repeat-lts
+use Rattle.da_walk.proofs.+da_arm+da_arms+da_block+da_branches+da_case+da_controlled+da_else+da_for+da_for_rounds+da_forever+da_if+da_inner+da_repeat+da_rounds+da_while.Lts-da_repeat as da-repeat-lts
 use Rattle.da_walk.proofs.da_rounds.Reads as da-rounds
 use Rattle.da_walk.proofs.da_rounds.Kinds as da-rounds-kinds
-use Rattle.da_walk.proofs.+da_arm+da_arms+da_block+da_branches+da_case+da_controlled+da_else+da_for+da_forever+da_if+da_inner+da_repeat+da_rounds+da_while.Lts-da_rounds as da-rounds-lts
+use Rattle.da_walk.proofs.+da_arm+da_arms+da_block+da_branches+da_case+da_controlled+da_else+da_for+da_for_rounds+da_forever+da_if+da_inner+da_repeat+da_rounds+da_while.Lts-da_rounds as da-rounds-lts
 use Rattle.da_walk.proofs.da_while.Reads as da-while
 use Rattle.da_walk.proofs.da_while.Kinds as da-while-kinds
-use Rattle.da_walk.proofs.+da_arm+da_arms+da_block+da_branches+da_case+da_controlled+da_else+da_for+da_forever+da_if+da_inner+da_repeat+da_rounds+da_while.Lts-da_while as da-while-lts
+use Rattle.da_walk.proofs.+da_arm+da_arms+da_block+da_branches+da_case+da_controlled+da_else+da_for+da_for_rounds+da_forever+da_if+da_inner+da_repeat+da_rounds+da_while.Lts-da_while as da-while-lts
 use Rattle.da.proofs.merge.Reads as merge-reads
 use Rattle.da.proofs.state.Reads as state-reads
-use Rattle.da_leaf.proofs.construct_of.Reads as construct-of-reads
+use Rattle.da_leaf.proofs.construct_from.Reads as construct-from-reads
 use Rattle.da_leaf.proofs.da_leaf.Reads as da-leaf-reads
+use Rattle.da_leaf.proofs.da_referring.Reads as da-referring-reads
+use Rattle.da_leaf.proofs.stays_written.Reads as stays-written-reads
 use Rattle.da_rows.proofs.case_out.Reads as case-out-reads
 use Rattle.da_rows.proofs.evaluate.Reads as evaluate-reads
 use Rattle.da_rows.proofs.gains.Reads as gains-reads
@@ -65,10 +70,10 @@ use Rattle.kinds.proofs.stmt_class.Reads as stmt-class-reads
 use Rattle.table.proofs.kind_at.Reads as kind-at-reads
 use Rattle.table.proofs.next_at.Reads as next-at-reads
 use Rattle.table.proofs.row_end.Reads as row-end-reads
-use Rattle.da_walk.proofs.+da_arm+da_arms+da_block+da_branches+da_case+da_controlled+da_else+da_for+da_forever+da_if+da_inner+da_repeat+da_rounds+da_while.{
+use Rattle.da_walk.proofs.+da_arm+da_arms+da_block+da_branches+da_case+da_controlled+da_else+da_for+da_for_rounds+da_forever+da_if+da_inner+da_repeat+da_rounds+da_while.{
   statement,
 }
-use Rattle.da_walk.proofs.+da_arm+da_arms+da_block+da_branches+da_case+da_controlled+da_else+da_for+da_forever+da_if+da_inner+da_repeat+da_rounds+da_while.Tie.{
+use Rattle.da_walk.proofs.+da_arm+da_arms+da_block+da_branches+da_case+da_controlled+da_else+da_for+da_for_rounds+da_forever+da_if+da_inner+da_repeat+da_rounds+da_while.Tie.{
   close,
 }
 
@@ -96,6 +101,9 @@ abbrev μ-da-else : Measures 2 da-else-kinds.ps ℕ
 abbrev μ-da-for : Measures 2 da-for-kinds.ps ℕ
 μ-da-for κs a = 5 * (a .1 .1 .1 .1 .0 - a .1 .1 .1 .0) + 3
 
+abbrev μ-da-for-rounds : Measures 2 da-for-rounds-kinds.ps ℕ
+μ-da-for-rounds κs a = 5 * (a .1 .1 .1 .1 .1 .1 .0 - a .1 .1 .1 .0) + 2
+
 abbrev μ-da-forever : Measures 2 da-forever-kinds.ps ℕ
 μ-da-forever κs a = 5 * (a .1 .1 .1 .1 .0 - a .1 .1 .1 .0) + 3
 
@@ -109,7 +117,7 @@ abbrev μ-da-repeat : Measures 2 da-repeat-kinds.ps ℕ
 μ-da-repeat κs a = 5 * (a .1 .1 .1 .1 .0 - a .1 .1 .1 .0) + 3
 
 abbrev μ-da-rounds : Measures 2 da-rounds-kinds.ps ℕ
-μ-da-rounds κs a = 5 * (a .1 .1 .1 .1 .1 .1 .0 - a .1 .1 .1 .0) + 1
+μ-da-rounds κs a = 5 * (a .1 .1 .1 .1 .1 .0 - a .1 .1 .1 .0) + 1
 
 abbrev μ-da-while : Measures 2 da-while-kinds.ps ℕ
 μ-da-while κs a = 5 * (a .1 .1 .1 .1 .0 - a .1 .1 .1 .0) + 3
@@ -170,6 +178,12 @@ da-for-at t = and 2 da-for-kinds.ps (is 2 da-for-kinds.ps μ-da-for t) da-for.Pr
 
 abbrev da-for-below : ℕ → In 2 da-for-kinds.ps
 da-for-below t = and 2 da-for-kinds.ps (falls 2 da-for-kinds.ps _<_ μ-da-for t) da-for.Pre
+
+abbrev da-for-rounds-at : ℕ → In 2 da-for-rounds-kinds.ps
+da-for-rounds-at t = and 2 da-for-rounds-kinds.ps (is 2 da-for-rounds-kinds.ps μ-da-for-rounds t) da-for-rounds.Pre
+
+abbrev da-for-rounds-below : ℕ → In 2 da-for-rounds-kinds.ps
+da-for-rounds-below t = and 2 da-for-rounds-kinds.ps (falls 2 da-for-rounds-kinds.ps _<_ μ-da-for-rounds t) da-for-rounds.Pre
 
 abbrev da-forever-at : ℕ → In 2 da-forever-kinds.ps
 da-forever-at t =
@@ -232,7 +246,7 @@ abbrev da-block-μ-loop : da-block-lts.MeasureT-loop
 da-block-μ-loop rows names ctx from to assigned child₀ a₀ child a = to - child
 
 abbrev da-block-calls : ℕ → da-block-lts.Claims
-da-block-calls t = (da-inner-below t, da-inner.Post, row-end-reads.Asked, row-end-reads.Learnt)
+da-block-calls t = (stays-written-reads.Asked, stays-written-reads.Learnt, row-end-reads.Asked, row-end-reads.Learnt, da-inner-below t, da-inner.Post)
 
 abbrev da-branches-calls : ℕ → da-branches-lts.Claims
 da-branches-calls t = (da-inner-below t, da-inner.Post, next-at-reads.Asked, next-at-reads.Learnt, da-else-below t, da-else.Post, merge-reads.Asked, merge-reads.Learnt)
@@ -241,46 +255,25 @@ abbrev da-case-calls : ℕ → da-case-lts.Claims
 da-case-calls t = (evaluate-reads.Asked, evaluate-reads.Learnt, next-at-reads.Asked, next-at-reads.Learnt, da-arms-below t, da-arms.Post)
 
 abbrev da-controlled-calls : ℕ → da-controlled-lts.Claims
-da-controlled-calls t = (da-leaf-reads.Asked, da-leaf-reads.Learnt, next-at-reads.Asked, next-at-reads.Learnt, da-inner-below t, da-inner.Post)
+da-controlled-calls t = (da-referring-reads.Asked, da-referring-reads.Learnt, next-at-reads.Asked, next-at-reads.Learnt, da-inner-below t, da-inner.Post)
 
 abbrev da-else-calls : ℕ → da-else-lts.Claims
 da-else-calls t = (is-absent-reads.Asked, is-absent-reads.Learnt, da-inner-below t, da-inner.Post)
 
 abbrev da-for-calls : ℕ → da-for-lts.Claims
-da-for-calls t = (da-inner-below t, da-inner.Post, next-at-reads.Asked, next-at-reads.Learnt, state-reads.Asked, state-reads.Learnt, evaluate-reads.Asked, evaluate-reads.Learnt, da-rounds-below t, da-rounds.Post)
+da-for-calls t = (da-inner-below t, da-inner.Post, next-at-reads.Asked, next-at-reads.Learnt, state-reads.Asked, state-reads.Learnt, evaluate-reads.Asked, evaluate-reads.Learnt, da-for-rounds-below t, da-for-rounds.Post)
+
+abbrev da-for-rounds-calls : ℕ → da-for-rounds-lts.Claims
+da-for-rounds-calls t = (da-rounds-below t, da-rounds.Post, da-inner-below t, da-inner.Post)
 
 abbrev da-forever-calls : ℕ → da-forever-lts.Claims
 da-forever-calls t = (da-rounds-below t, da-rounds.Post)
-
-da-forever-add-da-rounds :
-    (t : ℕ) →
-    da-forever-lts.Need-add-da-rounds
-    (da-forever-calls t)
-    (da-forever-at t)
-    da-forever.Post
-da-forever-add-da-rounds t c = search needs
-
-da-forever-add-da-rounds-2 :
-    (t : ℕ) →
-    da-forever-lts.Need-add-da-rounds-2
-    (da-forever-calls t)
-    (da-forever-at t)
-    da-forever.Post
-da-forever-add-da-rounds-2 t c = search needs
-
-da-forever-returns :
-    (t : ℕ) →
-    da-forever-lts.Need-returns
-    (da-forever-calls t)
-    (da-forever-at t)
-    da-forever.Post
-da-forever-returns t c = search looping
 
 abbrev da-if-calls : ℕ → da-if-lts.Claims
 da-if-calls t = (evaluate-reads.Asked, evaluate-reads.Learnt, next-at-reads.Asked, next-at-reads.Learnt, da-branches-below t, da-branches.Post)
 
 abbrev da-inner-calls : ℕ → da-inner-lts.Claims
-da-inner-calls t = (row-end-reads.Asked, row-end-reads.Learnt, kind-at-reads.Asked, kind-at-reads.Learnt, stmt-class-reads.Asked, stmt-class-reads.Learnt, construct-of-reads.Asked, construct-of-reads.Learnt, da-leaf-reads.Asked, da-leaf-reads.Learnt, da-controlled-below t, da-controlled.Post, da-inner-below t, da-inner.Post, da-block-below t, da-block.Post, da-if-below t, da-if.Post, da-case-below t, da-case.Post, da-for-below t, da-for.Post, da-while-below t, da-while.Post, da-repeat-below t, da-repeat.Post, da-forever-below t, da-forever.Post)
+da-inner-calls t = (row-end-reads.Asked, row-end-reads.Learnt, kind-at-reads.Asked, kind-at-reads.Learnt, stmt-class-reads.Asked, stmt-class-reads.Learnt, construct-from-reads.Asked, construct-from-reads.Learnt, da-leaf-reads.Asked, da-leaf-reads.Learnt, da-controlled-below t, da-controlled.Post, da-inner-below t, da-inner.Post, da-block-below t, da-block.Post, da-if-below t, da-if.Post, da-case-below t, da-case.Post, da-for-below t, da-for.Post, da-while-below t, da-while.Post, da-repeat-below t, da-repeat.Post, da-forever-below t, da-forever.Post)
 
 abbrev da-repeat-calls : ℕ → da-repeat-lts.Claims
 da-repeat-calls t = (next-at-reads.Asked, next-at-reads.Learnt, evaluate-reads.Asked, evaluate-reads.Learnt, da-rounds-below t, da-rounds.Post)
@@ -291,9 +284,9 @@ da-rounds-calls t = (da-inner-below t, da-inner.Post, rounds-write-reads.Asked, 
 abbrev da-while-calls : ℕ → da-while-lts.Claims
 da-while-calls t = (next-at-reads.Asked, next-at-reads.Learnt, evaluate-reads.Asked, evaluate-reads.Learnt, da-rounds-below t, da-rounds.Post)
 
-pub +da-arm+da-arms+da-block+da-branches+da-case+da-controlled+da-else+da-for+da-forever+da-if+da-inner+da-repeat+da-rounds+da-while-spec :
+pub +da-arm+da-arms+da-block+da-branches+da-case+da-controlled+da-else+da-for+da-for-rounds+da-forever+da-if+da-inner+da-repeat+da-rounds+da-while-spec :
     {M : Type 1} → statement M
-+da-arm+da-arms+da-block+da-branches+da-case+da-controlled+da-else+da-for+da-forever+da-if+da-inner+da-repeat+da-rounds+da-while-spec =
++da-arm+da-arms+da-block+da-branches+da-case+da-controlled+da-else+da-for+da-for-rounds+da-forever+da-if+da-inner+da-repeat+da-rounds+da-while-spec =
     close
     μ-da-arm
     μ-da-arms
@@ -303,6 +296,7 @@ pub +da-arm+da-arms+da-block+da-branches+da-case+da-controlled+da-else+da-for+da
     μ-da-controlled
     μ-da-else
     μ-da-for
+    μ-da-for-rounds
     μ-da-forever
     μ-da-if
     μ-da-inner
@@ -342,6 +336,10 @@ pub +da-arm+da-arms+da-block+da-branches+da-case+da-controlled+da-else+da-for+da
     da-block-Inv-loop
     da-block-μ-loop
     (λ c. search needs)
+    (λ c κs. search needs)
+    (λ c κs. search needs)
+    (λ c. search needs)
+    (λ c. search passing-over)
     (λ c κs. search needs)
     (λ c. search needs)
     (λ c. search needs)
@@ -414,14 +412,24 @@ pub +da-arm+da-arms+da-block+da-branches+da-case+da-controlled+da-else+da-for+da
     (λ c κs. search (needs, looping))
     (λ c. search looping)
     (λ c. search looping))
-    (λ t. da-forever-lts.spec
-    (da-forever-calls t)
+    (λ t. da-for-rounds-lts.spec (da-for-rounds-calls t)
+    (da-for-rounds-at t)
+    da-for-rounds.Post
+    (λ c κs. search needs)
+    (λ c. search needs)
+    (λ c. search needs)
+    (λ c. search looping)
+    (λ c κs. search needs)
+    (λ c. search needs)
+    (λ c. search needs)
+    (λ c. search looping)
+    (λ c. search looping))
+    (λ t. da-forever-lts.spec (da-forever-calls t)
     (da-forever-at t)
     da-forever.Post
-    (da-forever-add-da-rounds t)
-    (da-forever-add-da-rounds-2 t)
-    (λ c κs. search needs)
-    (da-forever-returns t))
+    (λ c. search needs)
+    (λ c κs. search (needs, looping))
+    (λ c. search looping))
     (λ t. da-if-lts.spec (da-if-calls t)
     (da-if-at t)
     da-if.Post
@@ -440,6 +448,7 @@ pub +da-arm+da-arms+da-block+da-branches+da-case+da-controlled+da-else+da-for+da
     (λ c κs. search needs)
     (λ c κs. search needs)
     (λ c κs. search needs)
+    (λ c. search needs)
     (λ c. search needs)
     (λ c κs. search dispatch)
     (λ c. search needs)
@@ -473,6 +482,7 @@ pub +da-arm+da-arms+da-block+da-branches+da-case+da-controlled+da-else+da-for+da
     (λ c. search dispatch)
     (λ c. search dispatch)
     (λ c. search dispatch)
+    (λ c. search dispatch)
     (λ c. search dispatch))
     (λ t. da-repeat-lts.spec (da-repeat-calls t)
     (da-repeat-at t)
@@ -489,10 +499,6 @@ pub +da-arm+da-arms+da-block+da-branches+da-case+da-controlled+da-else+da-for+da
     (λ t. da-rounds-lts.spec (da-rounds-calls t)
     (da-rounds-at t)
     da-rounds.Post
-    (λ c κs. search needs)
-    (λ c. search needs)
-    (λ c. search needs)
-    (λ c. search looping)
     (λ c κs. search needs)
     (λ c. search needs)
     (λ c. search needs)

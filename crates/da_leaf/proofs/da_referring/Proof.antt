@@ -1,0 +1,52 @@
+use borrow.Author.Needs.{needs}
+use Rattle.da_leaf.proofs.Leaves.{leaf-answers}
+use Rattle.da_leaf.proofs.da_referring.Statement.{statement}
+use Rattle.da_leaf.proofs.da_referring.Tie as tie
+
+pub da-referring-spec : {M : Type 1} → statement M
+da-referring-spec =
+    tie.close
+    (tie.spec
+    (λ c. search needs)
+    (λ c κs. search needs)
+    (λ c. search needs)
+    (λ c κs. search needs)
+    (λ c. search needs)
+    (λ c κs. search needs)
+    (λ c. search needs)
+    (λ c κs. search needs)
+    (λ c. search needs)
+    (λ c κs. search needs)
+    (λ c. search needs)
+    (λ c. search needs)
+    (λ c κs. search needs)
+    (λ c. search needs)
+    (λ c. search needs)
+    (λ c κs. search needs)
+    (λ c. search needs)
+    (λ c κs. search needs)
+    (λ c. search needs)
+    (λ c. search needs)
+    (λ c κs. search needs)
+    (λ c. search needs)
+    (λ c κs. search needs)
+    (λ c. search needs)
+    (λ c κs. search needs)
+    (λ c. search needs)
+    (λ c κs. search needs)
+    (λ c. search needs)
+    (λ c κs. search needs)
+    (λ c. search leaf-answers)
+    (λ c. search leaf-answers)
+    (λ c. search leaf-answers)
+    (λ c. search leaf-answers)
+    (λ c. search leaf-answers)
+    (λ c. search leaf-answers)
+    (λ c. search leaf-answers)
+    (λ c. search leaf-answers)
+    (λ c. search leaf-answers)
+    (λ c. search leaf-answers)
+    (λ c. search leaf-answers)
+    (λ c. search leaf-answers)
+    (λ c. search leaf-answers)
+    (λ c. search leaf-answers))

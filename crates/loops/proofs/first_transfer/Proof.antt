@@ -1,0 +1,28 @@
+use borrow.Author.Needs.{needs}
+use Prim.Native.Nat.{_-_}
+use mathlib.Core.Path.{_≡_, refl}
+use Rattle.table.specs.Rows.{tree, Nested}
+use Rattle.loops.specs.Escape.{cannotEscape}
+use Rattle.loops.proofs.Answers.{next-nested, scan-answers, scan-misses}
+use Rattle.loops.proofs.first_transfer.Statement.{statement}
+use Rattle.loops.proofs.first_transfer.Tie as tie
+
+abbrev Inv-loop : tie.InvT-loop
+Inv-loop rows from to i₀ i = Nested rows i to × (cannotEscape (tree rows from to) ≡ cannotEscape (tree rows i to))
+
+abbrev μ-loop : tie.MeasureT-loop
+μ-loop rows from to i₀ i = to - i
+
+pub first-transfer-spec : {M : Type 1} → statement M
+first-transfer-spec =
+    tie.close
+    (tie.spec
+    Inv-loop
+    μ-loop
+    (λ c. (search needs, refl))
+    (λ c κs. search needs)
+    (λ c. search scan-answers)
+    (λ c. search needs)
+    (λ c. search needs)
+    (λ c. (search next-nested, search scan-misses))
+    (λ c. search scan-answers))
