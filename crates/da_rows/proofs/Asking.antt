@@ -15,6 +15,7 @@ use Rattle.reads.specs.NoRef.{exprNoRef}
 use Rattle.effect_rules.specs.declared.ExprDa.{ExprDa}
 use Rattle.effect_rules.specs.declared.ExprDa.the-variants.{Clean, Writes, Reads}
 use Rattle.effect_rules.specs.declared.ExprEffect.{ExprEffect}
+use Rattle.effect_rules.specs.Rules.{noEffect}
 use Rattle.expr_effect.specs.Law.{ExprFacts, noFacts, factsAt, EffectTold}
 use Rattle.expr_effect.proofs.Facts.{fact-none, fact-lo, fact-hi}
 use Rattle.da.specs.declared.DaOut.{DaOut}
@@ -47,7 +48,7 @@ module _ (x : ℕ) {rows : List ℕ} {from to : ℕ} (g : Nested rows from to) w
   fact-span true q = let h : from < to = ltb-true from to q in (fact-lo x g h ∙ rw q, fact-hi x g h ∙ rw q)
   fact-span false q = let h : to ≤ from = ltb-false from to q in (rw (fact-none x rows from to h, q), rw (fact-none x rows from to h, q))
 
--- evaluate: where all is written nothing is asked, and else the effect decides
+-- evaluate: where all is written nothing is asked, where every row is quiet there is no effect, and else the effect decides
 pub evaluate-written : (e : ExprFacts) (a : State) → a ≡ true → To (record { after = true; «when_true» = true; «when_false» = true }) ≡ evaluation e a
 unfolding evaluation
 evaluate-written e a h = rw h
@@ -71,7 +72,14 @@ module _ (x : ℕ) (rows : List ℕ) (from to : ℕ) (a : State) (o : ExprEffect
   unfolding evaluation
   evaluate-clean q = rw (h, told .facts, q)
 
-pub ruleset evaluates = (gives-up, reads-some, reads-none, evaluate-written, evaluate-reads, evaluate-writes, evaluate-clean)
+pub evaluate-quiet : (x : ℕ) (rows : List ℕ) (from to : ℕ) (a : State) (b : Bool)
+    → a ≡ false
+    → (b ≡ true → EffectTold x (tree rows from to) noEffect)
+    → b ≡ true
+    → To (record { after = false; «when_true» = false; «when_false» = false }) ≡ evaluation (factIn x rows from to) a
+evaluate-quiet x rows from to a b h told t = evaluate-clean x rows from to a noEffect h (told t) refl
+
+pub ruleset evaluates = (gives-up, reads-some, reads-none, evaluate-written, evaluate-reads, evaluate-writes, evaluate-clean, evaluate-quiet)
 
 -- an expression of which no write is claimed is asked in the same way
 unless-onward : (e : ExprFacts) (a : State) (next : DaResult) → unlessRead e a next ≡ onward (evaluation e a) (λ states. next)

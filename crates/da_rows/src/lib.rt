@@ -67,7 +67,8 @@ fn read_at(rows: &[u32], from: usize, to: usize) -> DaGiveUp
     }
 }
 
-// The first of the rows from `from` up to `to`, an expression, is evaluated. Once the local is written, no row is looked at.
+// The first of the rows from `from` up to `to`, an expression, is evaluated. Once the local is written, no row is looked at. Most
+// expressions have nothing to do with the local, which one flat pass over their rows tells; the effect is worked out for the others.
 pub fn evaluate(rows: &[u32], local: usize, from: usize, to: usize, assigned: bool) -> Evaluated
     requires { ⌜ Nested (now rows) from to ⌝ }
     ensures { λ r. ⌜ r ≡ evaluation (factIn local (now (rows .entry)) from to) assigned ⌝ }
@@ -77,6 +78,13 @@ pub fn evaluate(rows: &[u32], local: usize, from: usize, to: usize, assigned: bo
             after: true,
             when_true: true,
             when_false: true,
+        });
+    }
+    if expr_effect::is_quiet(rows, local, from, to) {
+        return Evaluated::To(States {
+            after: false,
+            when_true: false,
+            when_false: false,
         });
     }
     let e = expr_effect::expr_writes_when(rows, local, from, to);

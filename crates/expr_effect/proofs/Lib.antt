@@ -3,3 +3,4 @@ pub mod Laws
 pub mod Rust
 pub mod Meaning
 pub mod Facts
+pub mod Quiet

@@ -5,6 +5,7 @@ use effect_rules::ExprEffect;
 use effect_rules::Form;
 use effect_rules::RowEffect;
 ghost use mathlib.Core.Path.{_≡_};
+ghost use mathlib.Core.Bool.{true};
 ghost use Prim.Native.Nat.{_+_, _*_, _<_};
 ghost use lib.ListN.{length};
 ghost use Rattle.table.specs.Rows.{Nested, tree, kindAt, sideAt};
@@ -96,4 +97,15 @@ pub fn expr_writes_when(rows: &[u32], local: usize, from: usize, to: usize) -> E
     ensures means { λ r. ⌜ EffectTold local (tree (now (rows .entry)) from to) r ⌝ }
 {
     row_effect::guard(expr_da(rows, local, from, to))
+}
+
+// Whether every row of the first of the rows from `from` up to `to` is plainly quiet. A yes says that it has no effect, a no says
+// nothing.
+pub fn is_quiet(rows: &[u32], local: usize, from: usize, to: usize) -> bool
+    requires { ⌜ Nested (now rows) from to ⌝ }
+    ensures { λ r. ⌜ (r ≡ true → exprEffectOf local (tree (now (rows .entry)) from to) 0 ≡ noEffect) ⌝ }
+    ensures means { λ r. ⌜ (r ≡ true → EffectTold local (tree (now (rows .entry)) from to) noEffect) ⌝ }
+{
+    let end = table::next_at(rows, from, to);
+    end <= reads::after_quiet(rows, local, from, end)
 }

@@ -10,9 +10,9 @@ use native.Mathlib.Numerals.{add-one}
 use lib.ListN.{length}
 use lib.Dec.{ltb}
 use borrow.Author.Tests.{ltb-true, ltb-false, lt-ltb, le-ltb}
-use Rattle.table.specs.Rows.{kindAt, endAt, tree, Nested}
+use Rattle.table.specs.Rows.{kindAt, sideAt, endAt, tree, Nested}
 use Rattle.table.proofs.Fold.{fold-none, fold-some}
-use Rattle.kinds.specs.Kinds.{Item, fits}
+use Rattle.kinds.specs.Kinds.{Item, entry, sideFits, fits}
 use Rattle.kinds.specs.Numbers.{itemsNumber}
 use Rattle.checks.specs.Checks.{endsBefore, above, kindAlone, kindsOf}
 use Rattle.one_pass.specs.declared.Next.{Next}
@@ -83,18 +83,23 @@ module _ {rows : List ℕ} {names row end to deep less : ℕ} (p : deep ≡ less
   unfolding kindAlone
   kinds-front = rw e (fold-some kindAlone nested-front (omega (arith, o .nested .ordered)))
 
--- a child that is right and is taken, and the siblings after it
-pub well-front : {rows : List ℕ} {names row end to left after deep less : ℕ} {next : Next}
+-- a child that is taken, with a side number of its kind and rows in it that are well for its kind's items, and the siblings after it
+pub well-front : {rows : List ℕ} {names row end to items left after deep less : ℕ} {next : Next}
     → deep ≡ less + 1
     → end ≡ endAt rows row
     → row < end
-    → RightRow rows names row
+    → kindAt rows row < 66
+    → sideFits (entry (kindAt rows row) .sides) names (sideAt rows row) ≡ true
+    → items ≡ itemsNumber (entry (kindAt rows row) .children)
     → AfterChild left (kindAt rows row) next
     → next ≡ Left after
-    → RightRows rows names (row + 1) end less
+    → Well rows names (row + 1) end items less
     → Well rows names end to after deep
     → Well rows names row to left deep
-well-front {rows} {names} {row} {end} {to} {after = after} p e l r a s n o = record {
-  all = right-front p e l r n (o .all);
-  siblings = λ full q. (let t = a .told after s full q (kindsOf (tree rows end to)) in rw (kinds-front p e l r n (o .all)) (t .1 .1 ∙ o .siblings (t .0) (t .1 .0)));
+well-front {rows} {names} {row} {end} {to} {after = after} p e l k f q a s n o = record {
+  all = right-front p e l right (n .all) (o .all);
+  siblings = λ full i. (let t = a .told after s full i (kindsOf (tree rows end to)) in rw (kinds-front p e l right (n .all) (o .all)) (t .1 .1 ∙ o .siblings (t .0) (t .1 .0)));
 }
+  where
+    right : RightRow rows names row
+    right = record { known = k; sides = f; fitting = rw (← e) (n .siblings _ q) }

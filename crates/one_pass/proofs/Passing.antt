@@ -1,8 +1,8 @@
 -- The loop of `rows_pass`. What it keeps says which rows are still to be looked at, and that all is well where those are.
-use Prim.Native.Nat.{ℕ, zero, suc, _+_, _-_, _≤_, _<_}
+use Prim.Native.Nat.{ℕ, zero, suc, _+_, _-_, _*_, _≤_, _<_}
 use mathlib.Core.Path.{_≡_, sym, subst, _∙_}
 use mathlib.Core.Bool.{Bool, true, false, not}
-use mathlib.Core.List.{List, [], map}
+use mathlib.Core.List.{List, []}
 use native.Mathlib.Omega.{arith}
 use native.Mathlib.Numerals.{add-one}
 use lib.ListN.{length, getD, set, length-set}
@@ -10,15 +10,14 @@ use lib.Seq.{getD-set-same, getD-set-other}
 use borrow.Author.Tests.{not-false}
 use Rattle.table.specs.Rows.{kindAt}
 use Rattle.kinds.specs.declared.Kind.{Kind}
-use Rattle.kinds.specs.Kinds.{Item, kinds, entry, fits}
-use Rattle.kinds.specs.Numbers.{numbers, itemsNumber}
+use Rattle.kinds.specs.Kinds.{Item, fits}
+use Rattle.kinds.specs.Numbers.{itemsNumber}
 use Rattle.kinds.proofs.Below.{true-not-false}
-use Rattle.kinds.proofs.Numbers.{entry-sides, entry-items}
 use Rattle.checks.specs.Held.{Held}
 use Rattle.one_pass.specs.declared.Range.{Range}
 use Rattle.one_pass.specs.declared.Step.{Step}
 use Rattle.one_pass.specs.declared.Step.the-variants.{Goes, Opens}
-use Rattle.one_pass.specs.Steps.{Given, Fine, Goes-on, Opened, StepTold}
+use Rattle.one_pass.specs.Steps.{Entries, Given, range, Fine, Goes-on, Opened, StepTold}
 use Rattle.one_pass.specs.Right.{oneStatement, Well, WellTold}
 use Rattle.one_pass.proofs.Front.{well-none}
 
@@ -64,17 +63,9 @@ pub record Passing (rows : List ℕ) (names count : ℕ) (kept : List Range) (ou
   pub outside : Kept count kept outer (at .to)
   pub whole : Fine rows names row at → Rest rows names kept outer (at .to) → Well rows names 0 count oneStatement 100
 
-pub passing-start : (rows : List ℕ) (names count : ℕ) (kept : List Range) → length kept ≡ 100 → Passing rows names count kept 0 (record { to = count; left = oneStatement; depth = 1 }) 0
+pub passing-start : (rows : List ℕ) (names count : ℕ) (kept : List Range) (at : Range) → length kept ≡ 100 → at ≡ range count oneStatement 1 → Passing rows names count kept 0 at 0
 unfolding Kept Rest
-passing-start rows names count kept e = record {
-  deep = omega arith;
-  shallow = omega arith;
-  size = e;
-  upto = omega arith;
-  within = omega arith;
-  outside = tt;
-  whole = λ f r. f;
-}
+passing-start rows names count kept at e a = rw a (record { deep = omega arith; shallow = omega arith; size = e; upto = omega arith; within = omega arith; outside = tt; whole = λ f r. f })
 
 pub passing-not : (rows : List ℕ) (names count : ℕ) → WellTold rows names count false
 passing-not rows names count = record { well = λ e. true-not-false (sym e) }
@@ -109,51 +100,59 @@ module _ (rows : List ℕ) (names count : ℕ) (kept : List Range) (at : Range) 
     unfolding Rest
     passing-done z = let v : Passing rows names count kept 0 at row = rw z at w in record { well = λ x. v .whole fine tt }
 
--- one row more
-module _ (rows : List ℕ) (names count : ℕ) (kept : List Range) (outer : ℕ) (at : Range) (row : ℕ) (w : Passing rows names count kept outer at row) (step : Step) (t : StepTold rows names row at step) where
+-- a step: the rows from `row` up to p
+module _ (rows : List ℕ) (names count : ℕ) (kept : List Range) (outer : ℕ) (at : Range) (row : ℕ) (w : Passing rows names count kept outer at row) (step : Step) (t : StepTold rows names row at step) (p : ℕ) where
   -- one range comes after it
-  pub passing-goes : (next : Range) → step ≡ Goes next → Passing rows names count kept outer next (row + 1)
-  passing-goes next s =
-      let o : Goes-on rows names row at next = t .goes next s in
-      record {
-        deep = omega (arith, w .deep, o .deep);
-        shallow = o .shallow;
-        size = w .size;
-        upto = omega (arith, o .upto, o .to);
-        within = omega (arith, w .within, o .to);
-        outside = rw (o .to) at (w .outside);
-        whole = λ f r. w .whole (o .well f) (rw (o .to) r);
-      }
+  module _ (next : Range) (s : step ≡ Goes p next) where
+    pub passing-goes : Passing rows names count kept outer next p
+    passing-goes =
+        let o : Goes-on rows names row p at next = t .goes p next s in
+        record {
+          deep = omega (arith, w .deep, o .deep);
+          shallow = o .shallow;
+          size = w .size;
+          upto = omega (arith, o .upto, o .to);
+          within = omega (arith, w .within, o .to);
+          outside = rw (o .to) at (w .outside);
+          whole = λ f r. w .whole (o .well f) (rw (o .to) r);
+        }
+
+    pub goes-falls : 2 * (count - p) + outer < 2 * (count - row) + outer
+    goes-falls = let o = t .goes p next s in omega (arith, w .within, o .after, o .upto)
 
   -- two do, of which the later is kept
-  pub passing-opens : (rest inner : Range) → step ≡ Opens rest inner → Passing rows names count (set kept outer rest) (outer + 1) inner (row + 1)
-  unfolding Kept Rest
-  passing-opens rest inner s = record {
-    deep = omega (arith, w .deep, o .deep);
-    shallow = o .shallow;
-    size = simp length-set (w .size);
-    upto = omega (arith, o .upto);
-    within = omega (arith, w .within, o .within);
-    outside = rw (add-one outer, new) (holds, kept-same kept (set kept outer rest) count outer (rest .to) same (rw (o .to) at (w .outside)));
-    whole = λ f r. opened f (rw (add-one outer) at r);
-  }
-    where
-      o : Opened rows names row at rest inner
-      o = t .opens rest inner s
+  module _ (rest inner : Range) (s : step ≡ Opens p rest inner) where
+    pub passing-opens : Passing rows names count (set kept outer rest) (outer + 1) inner p
+    unfolding Kept Rest
+    passing-opens = record {
+      deep = omega (arith, w .deep, o .deep);
+      shallow = o .shallow;
+      size = simp length-set (w .size);
+      upto = o .upto;
+      within = omega (arith, w .within, o .within);
+      outside = rw (add-one outer, new) (holds, kept-same kept (set kept outer rest) count outer (rest .to) same (rw (o .to) at (w .outside)));
+      whole = λ f r. opened f (rw (add-one outer) at r);
+    }
+      where
+        o : Opened rows names row p at rest inner
+        o = t .opens p rest inner s
 
-      holds : Holds count (inner .to) outer rest
-      holds = record { upto = omega (arith, o .within, o .to); within = omega (arith, w .within, o .to); deep = omega (arith, w .deep, o .same); shallow = omega (arith, w .shallow, o .same) }
+        holds : Holds count (inner .to) outer rest
+        holds = record { upto = omega (arith, o .within, o .to); within = omega (arith, w .within, o .to); deep = omega (arith, w .deep, o .same); shallow = omega (arith, w .shallow, o .same) }
 
-      new : getD (set kept outer rest) outer none ≡ rest
-      new = getD-set-same kept outer rest none (omega (arith, w .size, w .deep, w .shallow))
+        new : getD (set kept outer rest) outer none ≡ rest
+        new = getD-set-same kept outer rest none (omega (arith, w .size, w .deep, w .shallow))
 
-      same : (i : ℕ) → i < outer → getD (set kept outer rest) i none ≡ getD kept i none
-      same i l = getD-set-other kept outer i rest none (λ e. omega arith)
+        same : (i : ℕ) → i < outer → getD (set kept outer rest) i none ≡ getD kept i none
+        same i l = getD-set-other kept outer i rest none (λ e. omega arith)
 
-      opened : Fine rows names (row + 1) inner → Rest rows names (set kept outer rest) (suc outer) (inner .to) → Well rows names 0 count oneStatement 100
-      opened f r =
-          let g : Fine rows names (inner .to) rest × Rest rows names (set kept outer rest) outer (rest .to) = rw new at r in
-          w .whole (o .well f (g .0)) (rw (o .to) (rest-same kept (set kept outer rest) rows names outer (rest .to) same (g .1)))
+        opened : Fine rows names p inner → Rest rows names (set kept outer rest) (suc outer) (inner .to) → Well rows names 0 count oneStatement 100
+        opened f r =
+            let g : Fine rows names (inner .to) rest × Rest rows names (set kept outer rest) outer (rest .to) = rw new at r in
+            w .whole (o .well f (g .0)) (rw (o .to) (rest-same kept (set kept outer rest) rows names outer (rest .to) same (g .1)))
+
+    pub opens-falls : 2 * (count - p) + (outer + 1) < 2 * (count - row) + outer
+    opens-falls = let o = t .opens p rest inner s in omega (arith, w .within, o .after, o .upto, o .within)
 
 -- the entry of a row's kind
 pub given-row : (rows : List ℕ) (names count : ℕ) (kept : List Range) (outer : ℕ) (at : Range) (row : ℕ) (entries : List Kind) (d : Kind) (k : ℕ)
@@ -162,15 +161,13 @@ pub given-row : (rows : List ℕ) (names count : ℕ) (kept : List Range) (outer
     → (row ≡ at .to → ⊥)
     → k ≡ kindAt rows row
     → k < 66
-    → entries ≡ map numbers kinds
-    → Given rows row at (getD entries k d)
+    → Entries names entries
+    → Given rows names row at (getD entries k d)
 given-row rows names count kept outer at row entries d k w h q e u t = record {
-  below = omega (arith, w .upto);
-  room = omega (arith, w .within, h .room);
+  among = record { below = omega (arith, w .upto); room = omega (arith, w .within, h .room) };
   shallow = w .shallow;
   known = rw (← e) u;
-  sides = rw (← e) (entry-sides entries k d t u);
-  items = rw (← e) (entry-items entries k d t u);
+  of-kind = rw (← e) (t .each k d u);
 }
 
-pub ruleset passing = (passing-start, passing-done, passing-not, passing-close, passing-goes, passing-opens, given-row)
+pub ruleset passing = (passing-start, passing-done, passing-not, passing-close, passing-goes, goes-falls, passing-opens, opens-falls, given-row)

@@ -28,6 +28,10 @@ module _ (items kind left : ℕ) (w : Taking items kind left) (b : Bool) (t : b 
   pub taking-done : (after : ℕ) → not b ≡ false → after ≡ afterFirst left → AfterChild items kind (N.Left after)
   taking-done after n a = record { told = λ x e full f ks. (let l = left-taken (w .same full f ks) (sym t ∙ not-false b n) in let z : x ≡ after = cc in (l .items, (z ∙ a ∙ l .number, l .same))) }
 
+-- the first item takes the child
+pub taking-first : (items kind : ℕ) → takesFirst items kind ≡ true → AfterChild items kind (N.Left (afterFirst items))
+taking-first items kind t = taking-done items kind items (taking-start items kind) true (sym t) (afterFirst items) refl refl
+
 pub taking-falls : (left after : ℕ) (r : Bool) → after ≡ restFirst left → r ≡ repeatsFirst left → not r ≡ false → after < left
 taking-falls left after r a q n = omega (arith, rest-less left (sym q ∙ not-false r n))
 

@@ -35,6 +35,18 @@ pub record Well (rows : List ℕ) (names from to items deep : ℕ) : Type 0 wher
 abbrev pub oneStatement : ℕ
 oneStatement = 10251
 
+-- of one path, 0x0201
+abbrev pub onePath : ℕ
+onePath = 513
+
+-- of an assignment, 0x3c28_423c_0584_0483
+abbrev pub assignment : ℕ
+assignment = 4334787466902111363
+
+-- of an assignment's right side alone, 0x3c28
+abbrev pub oneExpression : ℕ
+oneExpression = 15400
+
 -- all the rows of a table, at most 100 deep, as one statement
 pub record WellTold (rows : List ℕ) (names count : ℕ) (r : Bool) : Type 0 where
   pub well : r ≡ true → Well rows names 0 count oneStatement 100

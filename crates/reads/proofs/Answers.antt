@@ -23,9 +23,10 @@ use Rattle.reads.specs.declared.Iff.the-variants.{Skipped}
 use Rattle.reads.specs.declared.Mention.{Mention}
 use Rattle.reads.specs.declared.Mention.the-variants.{At, Nowhere}
 use Rattle.reads.specs.PathRows.{isNamed, begins, count, segments}
-use Rattle.reads.specs.Mentions.{roleOf, mentionsBy, hasIff, mentionsAt, skipsIff, mentionIn, MentionTold, AfterPlain}
+use Rattle.reads.specs.Mentions.{roleOf, mentionsBy, hasIff, mentionsAt, skipsIff, mentionIn, MentionTold, AfterQuiet}
 use Rattle.reads.specs.NoRef.{exprNoRef, two-segments, not-vetted, vetting, vetted, stmtNoRef}
-use Rattle.reads.proofs.Scan.{orElse, mention-none, mention-here, mention-row, mention-event, found-refers, nowhere-refers, mention-told}
+use Rattle.reads.proofs.Scan.{orElse, mention-none, mention-here, mention-row, mention-event, found-refers, nowhere-refers, mention-told, next-nested}
+use Rattle.reads.proofs.Quiet.{quiet-same}
 
 -- begins_with
 pub begins-none : (x : ℕ) (rows : List ℕ) (from to : ℕ) → to ≤ from → false ≡ begins x (tree rows from to)
@@ -66,8 +67,8 @@ path-mentions rows i found r x to e p q t v = role-mentions rows i found ByPath 
 pub ruleset role-answers = (role-mentions, role-skips, path-mentions)
 
 -- first_mention: what its loop keeps is that the answer is that of the rows from i on
-pub scan-start : (iff : Iff) (x : ℕ) (rows : List ℕ) (from to i : ℕ) → AfterPlain rows from to i → mentionIn iff x rows from to ≡ mentionIn iff x rows i to
-scan-start iff x rows from to i w = w .same iff x
+pub scan-start : (iff : Iff) (x : ℕ) (rows : List ℕ) (from to i : ℕ) → Nested rows from to → AfterQuiet x rows from to i → mentionIn iff x rows from to ≡ mentionIn iff x rows i to
+scan-start iff x rows from to i g w = quiet-same iff x g w
 
 module _ (iff : Iff) (x : ℕ) (rows : List ℕ) (from to i : ℕ) (v : mentionIn iff x rows from to ≡ mentionIn iff x rows i to) where
   pub scan-done : to ≤ i → Nowhere ≡ mentionIn iff x rows from to
@@ -78,8 +79,8 @@ module _ (iff : Iff) (x : ℕ) (rows : List ℕ) (from to i : ℕ) (v : mentionI
     row-hit y = sym (v ∙ mention-here iff x g h (sym be ∙ y))
 
     module _ (p : Bool) (n : b ≡ false) (pe : p ≡ skipsIff iff (exprClass (kindAt rows i))) where
-      pub row-miss : (j : ℕ) → p ≡ false → AfterPlain rows (i + 1) to j → mentionIn iff x rows from to ≡ mentionIn iff x rows j to
-      row-miss j y w = v ∙ mention-row iff x g h (sym be ∙ n) (sym pe ∙ y) ∙ w .same iff x
+      pub row-miss : (j : ℕ) → p ≡ false → AfterQuiet x rows (i + 1) to j → mentionIn iff x rows from to ≡ mentionIn iff x rows j to
+      row-miss j y w = v ∙ mention-row iff x g h (sym be ∙ n) (sym pe ∙ y) ∙ quiet-same iff x (next-nested g h) w
 
       module _ (e a : ℕ) (m : Mention) (y : p ≡ true) (t : RowEnd rows i to e) (u : NextRow rows (i + 1) e a) (me : m ≡ mentionIn iff x rows (i + 1) a) where
         event-step : mentionIn iff x rows from to ≡ orElse m (mentionIn iff x rows e to)
@@ -88,8 +89,8 @@ module _ (iff : Iff) (x : ℕ) (rows : List ℕ) (from to i : ℕ) (v : mentionI
         pub event-hit : (r : ℕ) → m ≡ At r → m ≡ mentionIn iff x rows from to
         event-hit r z = sym (event-step ∙ rw z)
 
-        pub event-miss : (j : ℕ) → m ≡ Nowhere → AfterPlain rows e to j → mentionIn iff x rows from to ≡ mentionIn iff x rows j to
-        event-miss j z w = event-step ∙ rw z (w .same iff x)
+        pub event-miss : (j : ℕ) → m ≡ Nowhere → AfterQuiet x rows e to j → mentionIn iff x rows from to ≡ mentionIn iff x rows j to
+        event-miss j z w = event-step ∙ rw z (quiet-same iff x (t .others) w)
 
 -- both clauses of its contract
 pub scan-told : {iff : Iff} {x : ℕ} {rows : List ℕ} {from to : ℕ} {m : Mention} → Nested rows from to → m ≡ mentionIn iff x rows from to → (m ≡ mentionIn iff x rows from to) × MentionTold iff x rows from to m
@@ -97,15 +98,28 @@ scan-told g e = (e, mention-told g e)
 
 pub ruleset scan-answers = (scan-done, row-hit, event-hit)
 
--- no_ref
-module _ (x : ℕ) (rows : List ℕ) (from to : ℕ) (m : Mention) (e : m ≡ mentionIn Skipped x rows from to) where
-  pub found-no-ref : (r : ℕ) → m ≡ At r → false ≡ exprNoRef x (tree rows from to)
-  found-no-ref r h = rw (found-refers Skipped x rows from to r (sym e ∙ h))
+-- no_ref: the answer is that of the rows from the first one on that is not passed over
+module _ (x : ℕ) (rows : List ℕ) (from to next : ℕ) (g : Nested rows from to) (w : AfterQuiet x rows from to next) where
+  no-ref-found : (r : ℕ) → mentionIn Skipped x rows next to ≡ At r → false ≡ exprNoRef x (tree rows from to)
+  no-ref-found r e = rw (found-refers Skipped x rows from to r (quiet-same Skipped x g w ∙ e))
 
-  pub nowhere-no-ref : m ≡ Nowhere → true ≡ exprNoRef x (tree rows from to)
-  nowhere-no-ref h = rw (nowhere-refers Skipped x rows from to (sym e ∙ h))
+  no-ref-nowhere : mentionIn Skipped x rows next to ≡ Nowhere → true ≡ exprNoRef x (tree rows from to)
+  no-ref-nowhere e = rw (nowhere-refers Skipped x rows from to (quiet-same Skipped x g w ∙ e))
 
-pub ruleset no-ref-answers = (found-no-ref, nowhere-no-ref)
+  pub all-quiet : to ≤ next → true ≡ exprNoRef x (tree rows from to)
+  all-quiet h = no-ref-nowhere (mention-none Skipped x rows next to h)
+
+  pub first-refers : (b : Bool) → next < to → b ≡ mentionsAt x rows next → b ≡ true → false ≡ exprNoRef x (tree rows from to)
+  first-refers b h e t = no-ref-found next (mention-here Skipped x (w .nested) h (sym e ∙ t))
+
+  module _ (m : Mention) (e : m ≡ mentionIn Skipped x rows next to) where
+    pub later-refers : (r : ℕ) → m ≡ At r → false ≡ exprNoRef x (tree rows from to)
+    later-refers r h = no-ref-found r (sym e ∙ h)
+
+    pub none-refers : m ≡ Nowhere → true ≡ exprNoRef x (tree rows from to)
+    none-refers h = no-ref-nowhere (sym e ∙ h)
+
+pub ruleset no-ref-answers = (all-quiet, first-refers, later-refers, none-refers)
 
 -- segments
 pub segments-none : (rows : List ℕ) (from to : ℕ) → to ≤ from → 0 ≡ segments (tree rows from to)

@@ -1,4 +1,4 @@
-pub mod Plain
+pub mod Quiet
 pub mod Trees
 pub mod Scan
 pub mod Answers

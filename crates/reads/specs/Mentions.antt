@@ -4,7 +4,7 @@ use Prim.Native.Nat.{ℕ, _+_, _-_, _≤_, _<_}
 use mathlib.Core.Path.{_≡_}
 use mathlib.Core.Bool.{Bool, true, false, cond, _||_}
 use mathlib.Core.List.{List, [], _∷_, _++_}
-use Rattle.table.specs.Rows.{kindAt, endAt, Forest, tree, Nested}
+use Rattle.table.specs.Rows.{kindAt, sideAt, endAt, Forest, tree, Nested}
 use Rattle.table.specs.Fold.{Alg, fold, nth, tail}
 use Rattle.kinds.specs.declared.ExprClass.{ExprClass}
 use Rattle.kinds.specs.declared.ExprClass.the-variants.{Ident, Call, Lident, Opaque, Event, Unary, Binary, Ternary, Paren, Other}
@@ -102,12 +102,22 @@ firstTrue i (b ∷ bs) = cond b (At i) (firstTrue (i + 1) bs)
 unfoldable pub mentionIn : Iff → ℕ → List ℕ → ℕ → ℕ → Mention
 mentionIn iff x rows from to = firstTrue from (seen iff x (tree rows from to))
 
--- what `after_plain` tells: of the rows from i up to r none is a mention, or an event, so the first mention is the same from r on
-pub record AfterPlain (rows : List ℕ) (i to r : ℕ) : Type 0 where
+-- row r does nothing with the local by itself: it is no mention, no event, and no call that writes (side 1)
+pub record Quiet (x : ℕ) (rows : List ℕ) (r : ℕ) : Type 0 where
+  pub unmentioning : mentionsAt x rows r ≡ false
+  pub eventless : hasIff (roleOf (exprClass (kindAt rows r))) ≡ false
+  pub unwriting : exprClass (kindAt rows r) ≡ Call → sideAt rows r ≡ 1 → ⊥
+
+-- each of the rows from `from` up to `to` is quiet
+abbrev pub AllQuiet : ℕ → List ℕ → ℕ → ℕ → Type 0
+AllQuiet x rows from to = (j : ℕ) → from ≤ j → j < to → Quiet x rows j
+
+-- what `after_quiet` tells: the rows from i up to r are passed over, each being quiet
+pub record AfterQuiet (x : ℕ) (rows : List ℕ) (i to r : ℕ) : Type 0 where
   pub after : i ≤ r
   pub within : r ≤ to
   pub nested : Nested rows r to
-  pub same : (iff : Iff) (x : ℕ) → mentionIn iff x rows i to ≡ mentionIn iff x rows r to
+  pub quiet : AllQuiet x rows i r
 
 -- row r, of the rows from `from` up to `to`, is itself a mention
 pub record MentionAt (x : ℕ) (rows : List ℕ) (from to r : ℕ) : Type 0 where

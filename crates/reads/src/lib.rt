@@ -3,13 +3,12 @@ use kinds::ExprClass;
 use kinds::StmtClass;
 ghost use mathlib.Core.Path.{_≡_};
 ghost use mathlib.Core.Bool.{true};
-ghost use Prim.Native.Nat.{_+_, _*_, _<_};
+ghost use Prim.Native.Nat.{_+_, _*_, _≤_, _<_};
 ghost use lib.ListN.{length};
 ghost use Rattle.kinds.specs.Named.{exprClass};
-ghost use Rattle.table.specs.Rows.{Nested, tree, kindAt};
+ghost use Rattle.table.specs.Rows.{Nested, tree, kindAt, sideAt};
 ghost use Rattle.reads.specs.PathRows.{begins, segments as segmentsOf};
-ghost use Rattle.reads.specs.declared.Role.the-variants.{ByContent};
-ghost use Rattle.reads.specs.Mentions.{roleOf, mentionsAt, skipsIff, mentionIn, MentionTold, AfterPlain};
+ghost use Rattle.reads.specs.Mentions.{roleOf, mentionsAt, skipsIff, mentionIn, MentionTold, Quiet, AfterQuiet};
 ghost use Rattle.reads.specs.NoRef.{exprNoRef, lvalueNoRef, sensitivityNoRef, intraEventNoRef, stmtNoRef, vetted, two-segments};
 
 // Whether the iff of an event is looked at.
@@ -104,26 +103,56 @@ fn skips_iff(rows: &[u32], iff: Iff, i: usize) -> bool
     }
 }
 
-// Whether a kind is none of those that a row refers by: expressions and targets have numbers from 40 on, the first being `lit`, which
-// refers to nothing, and of the kinds before them only an event, 7, is looked at for itself. Most rows are such, and this is all that
-// is asked of them.
-fn is_plain(kind: usize) -> bool
-    ensures { λ r. ⌜ (r ≡ true → roleOf (exprClass kind) ≡ ByContent) ⌝ }
+// Whether row i, where the first segment of a path would stand, is not below `to` or is not named as the local is.
+fn names_other(rows: &[u32], local: usize, i: usize, to: usize) -> bool
+    requires { ⌜ 5 * to ≤ length (now rows) ⌝ }
+    ensures { λ r. ⌜ (r ≡ true → i < to → sideAt (now (rows .entry)) i ≡ local → ⊥) ⌝ }
 {
-    if kind == 7 {
-        return false;
+    if to <= i {
+        return true;
     }
-    kind < 41
+    table::side_at(rows, i) != local
 }
 
-// The first row from i on, up to `to`, that may refer by itself.
-fn after_plain(rows: &[u32], i: usize, to: usize) -> usize
+// Whether row i, a call, plainly neither begins with the local nor writes it.
+fn is_quiet_call(rows: &[u32], local: usize, i: usize, to: usize) -> bool
+    requires { ⌜ (Nested (now rows) i to) × (i < to) × (kindAt (now rows) i ≡ 54) ⌝ }
+    ensures { λ r. ⌜ (r ≡ true → Quiet local (now (rows .entry)) i) ⌝ }
+{
+    if table::side_at(rows, i) == 1 {
+        return false;
+    }
+    names_other(rows, local, i + 2, to)
+}
+
+// Whether row i, the first of the rows i up to `to`, is plainly quiet. Expressions and targets have numbers from 40 on, the first being
+// `lit`, which refers to nothing, and of the kinds before them only an event, 7, is looked at for itself. A path's first segment
+// stands two rows after the row that has the path, so where it is not the local, no more is asked.
+fn is_quiet(rows: &[u32], local: usize, i: usize, to: usize) -> bool
+    requires { ⌜ (Nested (now rows) i to) × (i < to) ⌝ }
+    ensures { λ r. ⌜ (r ≡ true → Quiet local (now (rows .entry)) i) ⌝ }
+{
+    let kind = table::kind_at(rows, i);
+    if kind < 41 {
+        return kind != 7;
+    }
+    match kind {
+        41 => names_other(rows, local, i + 2, to),
+        60 => names_other(rows, local, i + 2, to),
+        54 => is_quiet_call(rows, local, i, to),
+        59 => false,
+        _ => true,
+    }
+}
+
+// The first row from i on, up to `to`, that is not plainly quiet.
+pub fn after_quiet(rows: &[u32], local: usize, i: usize, to: usize) -> usize
     requires { ⌜ Nested (now rows) i to ⌝ }
-    ensures { λ r. ⌜ AfterPlain (now (rows .entry)) i to r ⌝ }
+    ensures { λ r. ⌜ AfterQuiet local (now (rows .entry)) i to r ⌝ }
 {
     let mut next = i;
     while next < to {
-        if !is_plain(table::kind_at(rows, next)) {
+        if !is_quiet(rows, local, next, to) {
             return next;
         }
         next += 1;
@@ -138,7 +167,7 @@ pub fn first_mention(rows: &[u32], iff: Iff, local: usize, from: usize, to: usiz
     ensures { λ r. ⌜ r ≡ mentionIn iff local (now (rows .entry)) from to ⌝ }
     ensures means { λ r. ⌜ MentionTold iff local (now (rows .entry)) from to r ⌝ }
 {
-    let mut i = after_plain(rows, from, to);
+    let mut i = after_quiet(rows, local, from, to);
     while i < to {
         if is_mention(rows, local, i, to) {
             return Mention::At(i);
@@ -150,20 +179,28 @@ pub fn first_mention(rows: &[u32], iff: Iff, local: usize, from: usize, to: usiz
             let Mention::Nowhere = found else {
                 return found;
             };
-            i = after_plain(rows, end, to);
+            i = after_quiet(rows, local, end, to);
         } else {
-            i = after_plain(rows, i + 1, to);
+            i = after_quiet(rows, local, i + 1, to);
         }
     }
     Mention::Nowhere
 }
 
-// Whether no row from `from` up to `to` refers to the local.
+// Whether no row from `from` up to `to` refers to the local. Most often every row is quiet, or the first that is not is a mention; the
+// pass is asked only otherwise.
 fn no_ref(rows: &[u32], local: usize, from: usize, to: usize) -> bool
     requires { ⌜ Nested (now rows) from to ⌝ }
     ensures { λ r. ⌜ r ≡ exprNoRef local (tree (now (rows .entry)) from to) ⌝ }
 {
-    match first_mention(rows, Iff::Skipped, local, from, to) {
+    let next = after_quiet(rows, local, from, to);
+    if to <= next {
+        return true;
+    }
+    if is_mention(rows, local, next, to) {
+        return false;
+    }
+    match first_mention(rows, Iff::Skipped, local, next, to) {
         Mention::At(_) => false,
         Mention::Nowhere => true,
     }

@@ -9,6 +9,8 @@ evaluate-spec =
     (tie.spec
     (λ c. search evaluates)
     (λ c κs. search needs)
+    (λ c. search evaluates)
+    (λ c κs. search needs)
     (λ c. search needs)
     (λ c κs. search needs)
     (λ c. search needs)

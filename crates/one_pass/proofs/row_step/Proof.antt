@@ -8,7 +8,6 @@ row-step-spec =
     tie.close
     (tie.spec
     (λ c κs. search needs)
-    (λ c κs. search needs)
     (λ c. search stepping)
     (λ c κs. search needs)
     (λ c κs. search needs)
@@ -19,6 +18,13 @@ row-step-spec =
     (λ c. search needs)
     (λ c κs. search needs)
     (λ c. search stepping)
+    (λ c. search stepping)
     (λ c κs. search needs)
     (λ c. search stepping)
+    (λ c κs. search needs)
+    (λ c. search needs)
+    (λ c κs. search needs)
+    (λ c. search stepping)
+    (λ c. search needs)
+    (λ c κs. search needs)
     (λ c. search stepping))

@@ -11,7 +11,7 @@ use borrow.Fn.PlainCycle.{Measures, is, falls, and}
 use Rattle.reads.proofs.first_mention.Reads as first-mention
 use Rattle.reads.proofs.first_mention.Kinds as first-mention-kinds
 use Rattle.reads.proofs.+first_mention.Lts-first_mention as first-mention-lts
-use Rattle.reads.proofs.after_plain.Reads as after-plain-reads
+use Rattle.reads.proofs.after_quiet.Reads as after-quiet-reads
 use Rattle.reads.proofs.is_mention.Reads as is-mention-reads
 use Rattle.reads.proofs.skips_iff.Reads as skips-iff-reads
 use Rattle.table.proofs.next_at.Reads as next-at-reads
@@ -41,7 +41,7 @@ abbrev first-mention-μ-loop : first-mention-lts.MeasureT-loop
 first-mention-μ-loop rows iff local from to i₀ i = to - i
 
 abbrev calls : ℕ → first-mention-lts.Claims
-calls t = (after-plain-reads.Asked, after-plain-reads.Learnt, is-mention-reads.Asked, is-mention-reads.Learnt, skips-iff-reads.Asked, skips-iff-reads.Learnt, row-end-reads.Asked, row-end-reads.Learnt, next-at-reads.Asked, next-at-reads.Learnt, first-mention-below t, first-mention.Post)
+calls t = (after-quiet-reads.Asked, after-quiet-reads.Learnt, is-mention-reads.Asked, is-mention-reads.Learnt, skips-iff-reads.Asked, skips-iff-reads.Learnt, row-end-reads.Asked, row-end-reads.Learnt, next-at-reads.Asked, next-at-reads.Learnt, first-mention-below t, first-mention.Post)
 
 pub +first-mention-spec : {M : Type 1} → statement M
 +first-mention-spec = close μ-first-mention λ t. first-mention-lts.spec (calls t)

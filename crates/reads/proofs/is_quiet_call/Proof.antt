@@ -1,0 +1,8 @@
+use borrow.Author.Needs.{needs}
+use Rattle.reads.proofs.Quiet.{quiet-answers}
+use Rattle.reads.proofs.is_quiet_call.Statement.{statement}
+use Rattle.reads.proofs.is_quiet_call.Tie as tie
+
+pub is-quiet-call-spec : {M : Type 1} → statement M
+is-quiet-call-spec =
+    tie.close (tie.spec (λ c κs. search needs) (λ c. search quiet-answers) (λ c. search needs) (λ c κs. search needs) (λ c. search quiet-answers))
