@@ -1,13 +1,13 @@
 -- The numbers of the table say what its entries say: side numbers, classes, items.
 use Prim.Native.Nat.{ℕ, zero, suc, _+_, _*_, _/_, _%_, _≤_, _<_}
 use mathlib.Core.Path.{_≡_, refl, sym, ap, _∙_}
-use mathlib.Core.Bool.{Bool, true, false, cond, _&&_, Bool·beq, and-false}
+use mathlib.Core.Bool.{or-true, or-false, and-true, Bool, true, false, cond, _&&_, Bool·beq, and-false}
 use mathlib.Core.List.{List, [], _∷_, map}
 use native.Mathlib.Nat.{pos-of-ne-zero}
 use native.Mathlib.Omega.{arith}
 use lib.ListN.{length, getD, length-map, List·getD-map}
 use lib.Dec.{eqb, leb, ltb, leb·suc-suc, eqb·suc-zero}
-use borrow.Author.Tests.{ltb-true, ltb-false, le-ltb, le-leb, lt-leb, leb-true, eqb-true, eqb-false}
+use borrow.Author.Tests.{ltb-true, ltb-false, le-ltb, le-leb, lt-leb, leb-true, eqb-true, eqb-false, eq-eqb, ne-eqb}
 use Rattle.kinds.specs.declared.Kind.{Kind}
 use Rattle.kinds.specs.Kinds.{Class, absent, path, seg, delay, intra, star-or-list, event, arm, decl, S, E, L, Sides, zero-only, up-to, name-number, Item, kinds, noEntry, entry, classNumber, ofClass, isKind, inClass, sideFits, takes}
 use Rattle.kinds.specs.Numbers.{sidesNumber, sideBelow, before, amount, firstOf, pastOf, bit, itemNumber, itemsNumber, ofFirst, takesFirst, repeatsFirst, restFirst, afterFirst, numbers}
@@ -154,6 +154,20 @@ module _ (items : ℕ) where
   pub takes-told : (k : ℕ) (r : Bool) → r ≡ takesFirst items k → (r ≡ takesFirst items k) × ((i : Item) (others : List Item) → items ≡ itemsNumber (i ∷ others) → r ≡ takes i k)
   takes-told k r q = (q, λ i others e. q ∙ rw e (takes-first i others k))
 
+  -- by its class, or as `none` where the item may be absent
+  module _ (k : ℕ) (b : Bool) (e : b ≡ ofFirst items k) where
+    pub taken-of : b ≡ true → true ≡ takesFirst items k
+    unfolding takesFirst
+    taken-of h = rw (← e, h) (sym (or-true (leb 128 (items % 256) && eqb k 0)))
+
+    pub taken-not : b ≡ false → (k ≡ 0 → ⊥) → false ≡ takesFirst items k
+    unfolding takesFirst
+    taken-not h n = rw (← e, h, ne-eqb k 0 n, and-false (leb 128 (items % 256)))
+
+    pub taken-none : b ≡ false → k ≡ 0 → leb 128 (items % 256) ≡ takesFirst items k
+    unfolding takesFirst
+    taken-none h z = rw (← e, h, eq-eqb k 0 z, and-true (leb 128 (items % 256)), or-false (leb 128 (items % 256)))
+
   pub repeats-told : (r : Bool) → r ≡ repeatsFirst items → (r ≡ repeatsFirst items) × ((i : Item) (others : List Item) → items ≡ itemsNumber (i ∷ others) → r ≡ i .may-repeat)
   repeats-told r q = (q, λ i others e. q ∙ rw e (repeats-first i others))
 
@@ -168,6 +182,8 @@ module _ (items : ℕ) where
       → r ≡ afterFirst items
       → (r ≡ afterFirst items) × ((i : Item) (others : List Item) → items ≡ itemsNumber (i ∷ others) → r ≡ cond (i .may-repeat) (itemsNumber (i ∷ others)) (itemsNumber others))
   after-told r q = (q, λ i others e. q ∙ after-is i others e)
+
+pub ruleset taking = (taken-of, taken-not, taken-none)
 
 -- no item takes nothing
 pub takes-none : (k : ℕ) → takesFirst 0 k ≡ false

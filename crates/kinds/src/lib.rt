@@ -497,13 +497,13 @@ pub fn takes_first(items: usize, kind: usize) -> bool
     ensures { λ r. ⌜ r ≡ takesFirst items kind ⌝ }
     ensures means { λ r. ⌜ ((i : Item) (others : List Item) → items ≡ itemsNumber (i ∷ others) → r ≡ takes i kind) ⌝ }
 {
-    if items % 256 < 128 {
-        return of_first(items, kind);
-    }
-    if kind == 0 {
+    if of_first(items, kind) {
         return true;
     }
-    of_first(items, kind)
+    if kind != 0 {
+        return false;
+    }
+    128 <= items % 256
 }
 
 // Whether it may stand any number of times.
