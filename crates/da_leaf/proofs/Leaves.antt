@@ -25,7 +25,6 @@ use Rattle.reads.specs.Mentions.{refers}
 use Rattle.reads.specs.NoRef.{vetting, vetted, stmtNoRef}
 use Rattle.expr_effect.proofs.Facts.{fact-refers}
 use Rattle.sheet_record.specs.Records.{markAt, marksOf}
-use Rattle.loops.specs.Time.{advances}
 use Rattle.da.specs.declared.DaOut.{DaOut}
 use Rattle.da.specs.declared.DaOut.the-variants.{Falls, Jumps}
 use Rattle.da.specs.declared.DaGiveUp.{DaGiveUp}
@@ -34,13 +33,13 @@ use Rattle.da.specs.declared.DaResult.the-variants.{Ok, Err}
 use Rattle.da.specs.declared.CallEffect.{CallEffect}
 use Rattle.da.specs.declared.CallEffect.the-variants.{Unknown}
 use Rattle.da.specs.Outcome.{State, isWritten}
-use Rattle.da.specs.Walk.{DaCtx, StmtRow, unlessRead, callEffect, task, heldFacts, walkOf}
+use Rattle.da.specs.Walk.{DaCtx, unlessRead, callEffect, task, heldFacts, walkOf}
 use Rattle.da_rows.specs.declared.Context.{Context}
 use Rattle.da_leaf.specs.declared.Construct.{Construct}
 use Rattle.da_leaf.specs.declared.Construct.the-variants.{Leaf}
-use Rattle.da_rows.specs.Tables.{untimed, stmtAt, factsIn, factIn}
+use Rattle.da_rows.specs.Tables.{untimed, factsIn, factIn}
 use Rattle.da_rows.specs.Asking.{giveUpAt}
-use Rattle.da_leaf.specs.Leaves.{returnAt, taskAt, disableAt, eventControlAt, constructOf, asksFirst, staysWritten, LeafRow, leafAt, vettedRow, referringAt}
+use Rattle.da_leaf.specs.Leaves.{returnAt, taskAt, disableAt, eventControlAt, constructOf, asksFirst, LeafRow, leafAt, vettedRow, referringAt}
 use Rattle.da_rows.proofs.Asking.{unless-then}
 
 -- call_effect

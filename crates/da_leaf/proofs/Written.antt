@@ -3,7 +3,6 @@ use mathlib.Core.Path.{_≡_, refl, sym, _∙_}
 use mathlib.Core.Bool.{Bool, true, false, cond, not, _&&_}
 use mathlib.Core.List.{List, [], _∷_}
 use Prim.Native.Nat.{ℕ, _+_}
-use borrow.Author.Needs.{needs}
 use denote.Enum.Declared.{tagOf}
 use types.Run.{OneOf}
 use Rattle.table.specs.Rows.{kindAt}
@@ -28,7 +27,7 @@ use Rattle.da_leaf.specs.declared.Construct.the-variants.{Written, Leaf}
 use Rattle.da_rows.specs.Tables.{untimed, stmtAt, factsIn, heldIn}
 use Rattle.da_leaf.specs.Leaves.{constructOf, staysWritten, constructFrom, leafAt}
 
--- the tags of the classes that it does not name, after the first
+-- the tags of the classes that `class_stays_written` does not name, after the first
 abbrev otherTags : List ℕ
 otherTags = 1 ∷ 2 ∷ 5 ∷ 6 ∷ 7 ∷ 8 ∷ 9 ∷ 10 ∷ 11 ∷ 12 ∷ 13 ∷ 17 ∷ 18 ∷ 19 ∷ 20 ∷ 23 ∷ []
 

@@ -141,11 +141,11 @@ staysWritten K.Default = false
 staysWritten K.Absent = false
 staysWritten K.NoStmt = false
 
--- from this state
+-- how da_stmt goes on at a statement of this class from this state
 abbrev pub constructFrom : StmtClass → State → Construct
 constructFrom class a = cond (isWritten a && staysWritten class) Written (constructOf class)
 
--- none, or one only after all else is asked
+-- da_stmt walks no statement within it, or one only after all else is asked
 abbrev pub asksFirst : Construct → Bool
 asksFirst Written = false
 asksFirst Leaf = true
@@ -159,7 +159,7 @@ asksFirst While = false
 asksFirst Repeat = false
 asksFirst Forever = false
 
--- what `da_leaf` asks of a row
+-- what `da_leaf` and `da_referring` ask of a row
 pub record LeafRow (rows : List ℕ) (class : StmtClass) (i end : ℕ) : Type 0 where
   pub row : RowAlone rows i end
   pub is : class ≡ stmtClass (kindAt rows i)
@@ -182,7 +182,7 @@ vettedRow ctx rows i end clear = record {
   cannotEscape = stmtAt ctx rows i end .cannotEscape;
 }
 
--- the same where stmt_no_ref answers that it refers
+-- `leafAt` as it goes on where stmt_no_ref does not let the row through
 abbrev pub referringAt : DaCtx → List ℕ → StmtClass → ℕ → ℕ → State → DaResult
 referringAt ctx rows class i end a =
     walkOf ctx class (vettedRow ctx rows i end false) (factsIn (ctx .local) rows (i + 1) end) (heldFacts (ctx .local) (tree rows (i + 1) end)) [] .walk a

@@ -297,8 +297,8 @@ fn construct_of(class: StmtClass) -> Construct
 }
 
 // Whether a statement of this class leaves a local that is written so, and does nothing else, whatever it holds: no row in it is looked
-// at. A nonblocking assignment is not one, which may give up, and neither are statements that jump or that hold statements.
-fn keeps_written(class: StmtClass, assigned: bool) -> bool
+// at. A nonblocking assignment is not one, which may give up, and neither are statements that may jump or whose statements are walked.
+fn class_stays_written(class: StmtClass, assigned: bool) -> bool
     ensures { λ r. ⌜ r ≡ assigned && staysWritten class ⌝ }
 {
     if !assigned {
@@ -321,20 +321,20 @@ pub fn stays_written(rows: &[u32], i: usize, assigned: bool) -> bool
     requires { ⌜ 5 * i + 4 < length (now rows) ⌝ }
     ensures { λ r. ⌜ r ≡ assigned && staysWritten (stmtClass (kindAt (now (rows .entry)) i)) ⌝ }
 {
-    keeps_written(kinds::stmt_class(table::kind_at(rows, i)), assigned)
+    class_stays_written(kinds::stmt_class(table::kind_at(rows, i)), assigned)
 }
 
-// How da_stmt goes on at a statement of this class.
+// How da_stmt goes on at a statement of this class, from this state.
 pub fn construct_from(class: StmtClass, assigned: bool) -> Construct
     ensures { λ r. ⌜ r ≡ constructFrom class assigned ⌝ }
 {
-    if keeps_written(class, assigned) {
+    if class_stays_written(class, assigned) {
         return Construct::Written;
     }
     construct_of(class)
 }
 
-// Row i, of a class that walks no statement or one only after what is asked here, which stmt_no_ref does not let through.
+// Row i, of a class that walks no statement or one only after what is asked here, as it goes on where stmt_no_ref does not let it through.
 pub fn da_referring(
     rows: &[u32],
     names: &[u32],

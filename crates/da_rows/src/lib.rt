@@ -80,7 +80,7 @@ pub fn evaluate(rows: &[u32], local: usize, from: usize, to: usize, assigned: bo
             when_false: true,
         });
     }
-    if expr_effect::is_quiet(rows, local, from, to) {
+    if expr_effect::all_quiet(rows, local, from, to) {
         return Evaluated::To(States {
             after: false,
             when_true: false,

@@ -14,7 +14,7 @@ use Rattle.reads.specs.NoRef.{vetting, vetted, stmtNoRef}
 use Rattle.da.specs.declared.DaOut.the-variants.{Falls}
 use Rattle.da.specs.declared.DaResult.{DaResult}
 use Rattle.da.specs.declared.DaResult.the-variants.{Ok}
-use Rattle.da.specs.Outcome.{State, written, isWritten, giveUp, _▷_}
+use Rattle.da.specs.Outcome.{State, isWritten, giveUp, _▷_}
 use Rattle.da.specs.Walk.{DaCtx, Walk, noWalk, heldFacts, walkOf, walkAt, daStmt}
 use Rattle.da_rows.specs.declared.Context.{Context}
 use Rattle.da_rows.specs.Tables.{untimed, stmtAt, factsIn, factIn, heldIn}

@@ -4,7 +4,7 @@ use mathlib.Core.Path.{_≡_}
 use mathlib.Core.Bool.{Bool, true, false, _||_}
 use mathlib.Core.List.{List}
 use Prim.Native.Nat.{ℕ, _+_, _<_}
-use Rattle.table.specs.Rows.{kindAt, endAt, tree, Nested}
+use Rattle.table.specs.Rows.{kindAt, endAt, tree, Nested, NextRow}
 use Rattle.table.specs.Fold.{nth, tail}
 use Rattle.kinds.specs.declared.StmtClass.{StmtClass}
 use Rattle.kinds.specs.Kinds.{S, inClass}
@@ -23,6 +23,7 @@ use Rattle.da_rows.specs.Parts.{caseOut}
 use Rattle.da_leaf.specs.declared.Construct.{Construct}
 use Rattle.da_leaf.specs.declared.Construct.the-variants.{Written, Leaf, Controlled, Arm, Block, If, Case, For, While, Repeat, Forever}
 use Rattle.da_leaf.specs.Leaves.{leafAt, referringAt}
+use Rattle.da_walk.specs.declared.ForParts.{ForParts}
 
 -- the walks of the rows from `from` up to `to`: each sibling's
 abbrev pub walksIn : DaCtx → List ℕ → ℕ → ℕ → List Walk
@@ -81,21 +82,21 @@ pub record LoopAt (rows : List ℕ) (row body end : ℕ) : Type 0 where
   pub below : row < body
   pub bodies : Nested rows body end
 
--- every loop's rounds but for the step, from the state after its condition and the one where a round starts
+-- the rounds of a loop without a step, from the state after its condition and the one where a round starts
 abbrev pub roundsAt : DaCtx → List ℕ → (row body end : ℕ) → State → State → DaResult
 roundsAt ctx rows row body end after inBody =
     rounds (stmtAt ctx rows row end) (nth true 0 (cannotEscapes (tree rows body end))) (walkIn ctx rows body end) noWalk after inBody
 
--- those of a for, whose step stands before its body
-pub record ForAt (rows : List ℕ) (row step body end : ℕ) : Type 0 where
-  pub below : row < step
-  pub steps : Nested rows step body
-  pub loop : LoopAt rows row body end
-
--- with the step
-abbrev pub forRoundsAt : DaCtx → List ℕ → (row step body end : ℕ) → State → State → DaResult
-forRoundsAt ctx rows row step body end after inBody =
-    rounds (stmtAt ctx rows row end) (nth true 0 (cannotEscapes (tree rows body end))) (walkIn ctx rows body end) (walkIn ctx rows step body) after inBody
+-- where the parts of the for in row i start: its init is the row after it, then come its condition, its step and its body
+pub record ForRow (rows : List ℕ) (i end : ℕ) (parts : ForParts) : Type 0 where
+  pub test : NextRow rows (i + 1) end (parts .test)
+  pub step : NextRow rows (parts .test) end (parts .step)
+  pub body : NextRow rows (parts .step) end (parts .body)
+  pub tests : Nested rows (parts .test) end
+  pub steps : Nested rows (parts .step) (parts .body)
+  pub bodies : Nested rows (parts .body) end
+  pub below : i < parts .step
+  pub after : i < parts .body
 
 -- S::For in row i, which ends at `end`
 abbrev pub forAt : DaCtx → List ℕ → ℕ → ℕ → State → DaResult

@@ -16,7 +16,7 @@ ghost use Rattle.soundness.specs.Demand3.{WalkMeans};
 ghost use Rattle.sheet_record.specs.Records.{marksOf};
 ghost use Rattle.da_rows.specs.Tables.{untimed};
 ghost use Rattle.da_leaf.specs.Leaves.{LeafRow};
-ghost use Rattle.da_walk.specs.Constructs.{blockIn, ifIn, branchesIn, elseIn, caseIn, armsIn, armIn, controlledAt, LoopAt, roundsAt, ForAt, forRoundsAt, forAt, whileAt, repeatAt, foreverAt, StatementIn, advancesAlone};
+ghost use Rattle.da_walk.specs.Constructs.{blockIn, ifIn, branchesIn, elseIn, caseIn, armsIn, armIn, controlledAt, LoopAt, roundsAt, ForRow, forAt, whileAt, repeatAt, foreverAt, StatementIn, advancesAlone};
 
 // The walk of the first of the rows from `from` up to `to`. Whether time can advance has been asked of a statement that holds it.
 fn da_inner(
@@ -73,7 +73,7 @@ fn da_controlled(
 }
 
 // The statements of a block, the rows from `from` up to `to`, each from where the one before it fell. Those that a written local stays
-// written in are passed over.
+// written in are passed over here, since they cost little but the call of da_inner, which asks the same.
 fn da_block(
     rows: &[u32],
     names: &[u32],
@@ -247,7 +247,7 @@ fn da_arm(
     da_inner(rows, names, ctx, from, to, after)
 }
 
-// The rounds of the loop in row `row` but for its step: its body is the first of the rows from `body` up to `end`. Numbers and no struct:
+// The rounds of the loop in row `row`, which has no step: its body is the first of the rows from `body` up to `end`. Numbers and no struct:
 // each struct that is passed takes room on the stack of every loop within a loop.
 fn da_rounds(
     rows: &[u32],
@@ -270,33 +270,26 @@ fn da_rounds(
     DaResult::Ok(DaOut::Falls(wrote))
 }
 
-// The rounds of the for in row `row`. Its step is the first of the rows from `step` up to `body`, and starts where the body starts.
-fn da_for_rounds(
-    rows: &[u32],
-    names: &[u32],
-    ctx: Context,
-    row: usize,
+// Where the condition, the step and the body of a for start.
+struct ForParts {
+    test: usize,
     step: usize,
     body: usize,
-    end: usize,
-    after: bool,
-    in_body: bool,
-) -> DaResult
-    requires { ⌜ ForAt (now rows) row step body end ⌝ }
-    ensures { λ r. ⌜ r ≡ forRoundsAt (untimed ctx (now (names .entry))) (now (rows .entry)) row step body end after «in_body» ⌝ }
-{
-    let r = da_rounds(rows, names, ctx, row, body, end, after, in_body);
-    let DaResult::Ok(out) = r else {
-        return r;
-    };
-    let s = da_inner(rows, names, ctx, step, body, in_body);
-    let DaResult::Ok(step_out) = s else {
-        return s;
-    };
-    r
 }
 
-// A for in row i: its init, then its condition, and rounds where that is true.
+// Those of the for in row i, after its init.
+fn for_parts(rows: &[u32], i: usize, end: usize) -> ForParts
+    requires { ⌜ RowAlone (now rows) i end ⌝ }
+    ensures { λ r. ⌜ ForRow (now (rows .entry)) i end r ⌝ }
+{
+    let test = table::next_at(rows, i + 1, end);
+    let step = table::next_at(rows, test, end);
+    let body = table::next_at(rows, step, end);
+    ForParts { test, step, body }
+}
+
+// A for in row i: its init, then its condition, and rounds where that is true. Its step is walked after its body, from where the body
+// starts.
 fn da_for(
     rows: &[u32],
     names: &[u32],
@@ -312,23 +305,22 @@ fn da_for(
     let DaResult::Ok(out) = r else {
         return r;
     };
-    let test = table::next_at(rows, i + 1, end);
-    let step = table::next_at(rows, test, end);
-    let body = table::next_at(rows, step, end);
-    let e = da_rows::evaluate(rows, ctx.local, test, end, da::state(out));
+    let parts = for_parts(rows, i, end);
+    let e = da_rows::evaluate(rows, ctx.local, parts.test, end, da::state(out));
     match e {
         Evaluated::Read(stop) => DaResult::Err(stop),
-        Evaluated::To(states) => da_for_rounds(
-            rows,
-            names,
-            ctx,
-            i,
-            step,
-            body,
-            end,
-            states.after,
-            states.when_true,
-        ),
+        Evaluated::To(states) => {
+            let q = da_inner(rows, names, ctx, parts.body, end, states.when_true);
+            let DaResult::Ok(body_out) = q else {
+                return q;
+            };
+            let s = da_inner(rows, names, ctx, parts.step, parts.body, states.when_true);
+            let DaResult::Ok(step_out) = s else {
+                return s;
+            };
+            let wrote = da_rows::rounds_write(rows, i, parts.body, end, body_out, states.after);
+            DaResult::Ok(DaOut::Falls(wrote))
+        }
     }
 }
 

@@ -45,7 +45,7 @@ none-form Opaque s w = refl
 none-form Event s w = refl
 none-form Other s w = refl
 
--- each sibling of rows that are all quiet
+-- none of these siblings has an effect
 abbrev NoEffects : ℕ → List ℕ → ℕ → ℕ → Type 0
 NoEffects x rows from to = (i : ℕ) → exprEffectOf x (tree rows from to) i ≡ noEffect
 
@@ -74,7 +74,7 @@ quiet-by (suc n) x {rows} {from} {to} b g q =
 pub quiet-effects : (x : ℕ) {rows : List ℕ} {from to : ℕ} → Nested rows from to → AllQuiet x rows from to → (i : ℕ) → exprEffectOf x (tree rows from to) i ≡ noEffect
 quiet-effects x {from = from} {to = to} g q = quiet-by (to - from) x (omega arith) g q
 
--- is_quiet
+-- all_quiet
 module _ (x : ℕ) (rows : List ℕ) (from to end next : ℕ) (g : Nested rows from to) (u : NextRow rows from to end) (w : AfterQuiet x rows from end next) (e : leb end next ≡ true) where
   pub quiet-first : exprEffectOf x (tree rows from to) 0 ≡ noEffect
   quiet-first =

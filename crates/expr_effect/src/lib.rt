@@ -101,7 +101,7 @@ pub fn expr_writes_when(rows: &[u32], local: usize, from: usize, to: usize) -> E
 
 // Whether every row of the first of the rows from `from` up to `to` is plainly quiet. A yes says that it has no effect, a no says
 // nothing.
-pub fn is_quiet(rows: &[u32], local: usize, from: usize, to: usize) -> bool
+pub fn all_quiet(rows: &[u32], local: usize, from: usize, to: usize) -> bool
     requires { ⌜ Nested (now rows) from to ⌝ }
     ensures { λ r. ⌜ (r ≡ true → exprEffectOf local (tree (now (rows .entry)) from to) 0 ≡ noEffect) ⌝ }
     ensures means { λ r. ⌜ (r ≡ true → EffectTold local (tree (now (rows .entry)) from to) noEffect) ⌝ }

@@ -22,8 +22,8 @@ fn transfers_control(rows: &[u32], i: usize) -> bool
     }
 }
 
-// The first of the rows from `from` up to `to` that transfers control; `to`, or `from` where it is past it, if none does. A number and no
-// bool: a loop's body is scanned once for each loop around it, and its rows then cost least.
+// The first of the rows from `from` up to `to` that transfers control, or `to`; told is only whether there is one. A number and no bool,
+// since a bool as the loop's answer costs one instruction more a row, and a loop's body is scanned once for each loop around it.
 fn first_transfer(rows: &[u32], from: usize, to: usize) -> usize
     requires { ⌜ Nested (now rows) from to ⌝ }
     ensures { λ r. ⌜ leb to r ≡ cannotEscape (tree (now (rows .entry)) from to) ⌝ }

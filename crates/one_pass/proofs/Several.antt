@@ -76,7 +76,7 @@ children = record {
   target = record { known = omega arith; side = λ names. refl; items = refl; takes = refl };
 }
 
--- is_name
+-- holds_name
 module _ (rows : List ℕ) (names row end to depth : ℕ) where
   pub name-not : NameTold rows names row end to depth false
   name-not = record { after = λ t. true-not-false (sym t); within = λ t. true-not-false (sym t); well = λ t. true-not-false (sym t) }

@@ -1,4 +1,4 @@
--- One row, as `inner_step` and `row_step` meet it.
+-- A row and those taken with it, as `inner_step` and `row_step` meet them.
 use Prim.Native.Nat.{ℕ, _+_, _-_, _≤_, _<_}
 use mathlib.Core.Path.{_≡_, refl, sym, subst, _∙_}
 use mathlib.Core.Bool.{Bool, true, false, not}

@@ -1,4 +1,5 @@
--- What the calls ask and tell that take a row, or several at once: they lead from what is well after them to what is well with them.
+-- What the calls ask and tell that take a row, or several at once: they lead from what is well after them to what is well with them. Only a
+-- yes tells: each may say no, or tell fewer sides, which costs time alone.
 use Prim.Native.Nat.{ℕ, _+_, _-_, _*_, _≤_, _<_}
 use mathlib.Core.Path.{_≡_}
 use mathlib.Core.Bool.{Bool, true}
@@ -52,7 +53,7 @@ pub record RowTold (rows : List ℕ) (row k e : ℕ) (r : Bool) : Type 0 where
   pub side : r ≡ true → sideAt rows row ≡ 0
   pub end : r ≡ true → endAt rows row ≡ e
 
--- what `is_name` tells of a row so deep: where it ends, and that the rows in it are well as one path
+-- what `holds_name` tells of a row so deep: where it ends, and that the rows in it are well as one path
 pub record NameTold (rows : List ℕ) (names row end to depth : ℕ) (r : Bool) : Type 0 where
   pub after : r ≡ true → row < end
   pub within : r ≡ true → end ≤ to

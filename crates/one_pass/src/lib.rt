@@ -40,10 +40,10 @@ enum Step {
 // The items of what row 0 is: one statement.
 const ONE_STATEMENT: usize = 0x280b;
 
-// The items of a kind that holds just a path.
+// The items of a kind that holds just a path: ident, lident and disable. Kinds are told by their items where these alone matter.
 const ONE_PATH: usize = 0x0201;
 
-// The items of an assignment: delay, intra, target, right side.
+// The items of an assignment, blocking or nonblocking: delay, intra, target, right side.
 const ASSIGNMENT: usize = 0x3c28_423c_0584_0483;
 
 // The items of what is left of it at its right side.
@@ -93,7 +93,7 @@ fn is_row(rows: &[u32], row: usize, kind: usize, end: usize) -> bool
 }
 
 // Whether what a row holds, up to its end, is a path of one segment: two rows, the lower of which stands two deeper.
-fn is_name(rows: &[u32], row: usize, end: usize, to: usize, depth: usize, names: usize) -> bool
+fn holds_name(rows: &[u32], row: usize, end: usize, to: usize, depth: usize, names: usize) -> bool
     requires { ⌜ Among (now rows) row to ⌝ }
     ensures { λ r. ⌜ NameTold (now (rows .entry)) names row end to depth r ⌝ }
 {
@@ -148,7 +148,7 @@ fn is_plain_assignment(
     if !is_row(rows, row + 3, LIDENT, row + 6) {
         return false;
     }
-    is_name(rows, row + 3, row + 6, end, depth + 1, names)
+    holds_name(rows, row + 3, row + 6, end, depth + 1, names)
 }
 
 // What comes after a row that ends here: the rows from `from` on that it holds, of these items, and those after it.
@@ -208,7 +208,7 @@ fn row_step(rows: &[u32], row: usize, at: Range, entry: Kind, names: usize) -> S
         return Step::Goes(end, rest);
     }
     if entry.children == ONE_PATH {
-        if is_name(rows, row, end, at.to, at.depth, names) {
+        if holds_name(rows, row, end, at.to, at.depth, names) {
             return Step::Goes(end, rest);
         }
     }

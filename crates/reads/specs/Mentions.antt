@@ -102,7 +102,8 @@ firstTrue i (b ∷ bs) = cond b (At i) (firstTrue (i + 1) bs)
 unfoldable pub mentionIn : Iff → ℕ → List ℕ → ℕ → ℕ → Mention
 mentionIn iff x rows from to = firstTrue from (seen iff x (tree rows from to))
 
--- row r does nothing with the local by itself: it is no mention, no event, and no call that writes (side 1)
+-- row r, as a row of an expression or a target, does nothing with the local by itself: it is no mention, no event, and no call that
+-- writes (side 1)
 pub record Quiet (x : ℕ) (rows : List ℕ) (r : ℕ) : Type 0 where
   pub unmentioning : mentionsAt x rows r ≡ false
   pub eventless : hasIff (roleOf (exprClass (kindAt rows r))) ≡ false
@@ -112,7 +113,7 @@ pub record Quiet (x : ℕ) (rows : List ℕ) (r : ℕ) : Type 0 where
 abbrev pub AllQuiet : ℕ → List ℕ → ℕ → ℕ → Type 0
 AllQuiet x rows from to = (j : ℕ) → from ≤ j → j < to → Quiet x rows j
 
--- what `after_quiet` tells: the rows from i up to r are passed over, each being quiet
+-- what `after_quiet` tells: the rows from i up to r are passed over, each being quiet; nothing is told of row r
 pub record AfterQuiet (x : ℕ) (rows : List ℕ) (i to r : ℕ) : Type 0 where
   pub after : i ≤ r
   pub within : r ≤ to

@@ -125,9 +125,10 @@ fn is_quiet_call(rows: &[u32], local: usize, i: usize, to: usize) -> bool
     names_other(rows, local, i + 2, to)
 }
 
-// Whether row i, the first of the rows i up to `to`, is plainly quiet. Expressions and targets have numbers from 40 on, the first being
-// `lit`, which refers to nothing, and of the kinds before them only an event, 7, is looked at for itself. A path's first segment
-// stands two rows after the row that has the path, so where it is not the local, no more is asked.
+// Whether row i, the first of the rows i up to `to`, is plainly quiet; a no says nothing. Expressions and targets have numbers from 40 on,
+// the first being `lit`, which refers to nothing, and of the kinds before them only an event, 7, is looked at for itself. A path's
+// first segment stands two rows after the row that has the path, so where it is not the local, no more is asked. Kinds are told by their
+// numbers here, not by their classes: this is asked of more rows than anything else.
 fn is_quiet(rows: &[u32], local: usize, i: usize, to: usize) -> bool
     requires { ⌜ (Nested (now rows) i to) × (i < to) ⌝ }
     ensures { λ r. ⌜ (r ≡ true → Quiet local (now (rows .entry)) i) ⌝ }
@@ -137,15 +138,15 @@ fn is_quiet(rows: &[u32], local: usize, i: usize, to: usize) -> bool
         return kind != 7;
     }
     match kind {
-        41 => names_other(rows, local, i + 2, to),
-        60 => names_other(rows, local, i + 2, to),
-        54 => is_quiet_call(rows, local, i, to),
-        59 => false,
+        41 => names_other(rows, local, i + 2, to), // ident
+        60 => names_other(rows, local, i + 2, to), // lident
+        54 => is_quiet_call(rows, local, i, to), // call
+        59 => false, // opaque
         _ => true,
     }
 }
 
-// The first row from i on, up to `to`, that is not plainly quiet.
+// A row from i on, up to `to`, before which all are quiet: the first that is not plainly so. Nothing is told of that row.
 pub fn after_quiet(rows: &[u32], local: usize, i: usize, to: usize) -> usize
     requires { ⌜ Nested (now rows) i to ⌝ }
     ensures { λ r. ⌜ AfterQuiet local (now (rows .entry)) i to r ⌝ }

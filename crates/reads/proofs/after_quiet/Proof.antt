@@ -1,5 +1,4 @@
 use borrow.Author.Needs.{needs}
-use native.Mathlib.Omega.{arith}
 use Prim.Native.Nat.{_-_}
 use Rattle.reads.specs.Mentions.{AfterQuiet}
 use Rattle.reads.proofs.Quiet.{quiet-loop}

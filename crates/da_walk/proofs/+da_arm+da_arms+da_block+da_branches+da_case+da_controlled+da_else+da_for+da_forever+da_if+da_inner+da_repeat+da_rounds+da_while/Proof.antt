@@ -5,54 +5,51 @@ use borrow.Author.Needs.{needs}
 use Rattle.table.proofs.Loops.{Goes}
 use Rattle.da_walk.proofs.Dispatch.{dispatch}
 use Rattle.da_walk.proofs.Branching.{branching, passing-over}
-use Rattle.da_walk.proofs.Looping.{looping}
+use Rattle.da_walk.proofs.Looping.{looping, for-step, for-falls}
 use borrow.Fn.Kinds.{In}
 use borrow.Fn.PlainCycle.{Measures, is, falls, and}
 use Rattle.da_walk.proofs.da_arm.Reads as da-arm
 use Rattle.da_walk.proofs.da_arm.Kinds as da-arm-kinds
-use Rattle.da_walk.proofs.+da_arm+da_arms+da_block+da_branches+da_case+da_controlled+da_else+da_for+da_for_rounds+da_forever+da_if+da_inner+da_repeat+da_rounds+da_while.Lts-da_arm as da-arm-lts
+use Rattle.da_walk.proofs.+da_arm+da_arms+da_block+da_branches+da_case+da_controlled+da_else+da_for+da_forever+da_if+da_inner+da_repeat+da_rounds+da_while.Lts-da_arm as da-arm-lts
 use Rattle.da_walk.proofs.da_arms.Reads as da-arms
 use Rattle.da_walk.proofs.da_arms.Kinds as da-arms-kinds
-use Rattle.da_walk.proofs.+da_arm+da_arms+da_block+da_branches+da_case+da_controlled+da_else+da_for+da_for_rounds+da_forever+da_if+da_inner+da_repeat+da_rounds+da_while.Lts-da_arms as da-arms-lts
+use Rattle.da_walk.proofs.+da_arm+da_arms+da_block+da_branches+da_case+da_controlled+da_else+da_for+da_forever+da_if+da_inner+da_repeat+da_rounds+da_while.Lts-da_arms as da-arms-lts
 use Rattle.da_walk.proofs.da_block.Reads as da-block
 use Rattle.da_walk.proofs.da_block.Kinds as da-block-kinds
-use Rattle.da_walk.proofs.+da_arm+da_arms+da_block+da_branches+da_case+da_controlled+da_else+da_for+da_for_rounds+da_forever+da_if+da_inner+da_repeat+da_rounds+da_while.Lts-da_block as da-block-lts
+use Rattle.da_walk.proofs.+da_arm+da_arms+da_block+da_branches+da_case+da_controlled+da_else+da_for+da_forever+da_if+da_inner+da_repeat+da_rounds+da_while.Lts-da_block as da-block-lts
 use Rattle.da_walk.proofs.da_branches.Reads as da-branches
 use Rattle.da_walk.proofs.da_branches.Kinds as da-branches-kinds
-use Rattle.da_walk.proofs.+da_arm+da_arms+da_block+da_branches+da_case+da_controlled+da_else+da_for+da_for_rounds+da_forever+da_if+da_inner+da_repeat+da_rounds+da_while.Lts-da_branches as da-branches-lts
+use Rattle.da_walk.proofs.+da_arm+da_arms+da_block+da_branches+da_case+da_controlled+da_else+da_for+da_forever+da_if+da_inner+da_repeat+da_rounds+da_while.Lts-da_branches as da-branches-lts
 use Rattle.da_walk.proofs.da_case.Reads as da-case
 use Rattle.da_walk.proofs.da_case.Kinds as da-case-kinds
-use Rattle.da_walk.proofs.+da_arm+da_arms+da_block+da_branches+da_case+da_controlled+da_else+da_for+da_for_rounds+da_forever+da_if+da_inner+da_repeat+da_rounds+da_while.Lts-da_case as da-case-lts
+use Rattle.da_walk.proofs.+da_arm+da_arms+da_block+da_branches+da_case+da_controlled+da_else+da_for+da_forever+da_if+da_inner+da_repeat+da_rounds+da_while.Lts-da_case as da-case-lts
 use Rattle.da_walk.proofs.da_controlled.Reads as da-controlled
 use Rattle.da_walk.proofs.da_controlled.Kinds as da-controlled-kinds
-use Rattle.da_walk.proofs.+da_arm+da_arms+da_block+da_branches+da_case+da_controlled+da_else+da_for+da_for_rounds+da_forever+da_if+da_inner+da_repeat+da_rounds+da_while.Lts-da_controlled as da-controlled-lts
+use Rattle.da_walk.proofs.+da_arm+da_arms+da_block+da_branches+da_case+da_controlled+da_else+da_for+da_forever+da_if+da_inner+da_repeat+da_rounds+da_while.Lts-da_controlled as da-controlled-lts
 use Rattle.da_walk.proofs.da_else.Reads as da-else
 use Rattle.da_walk.proofs.da_else.Kinds as da-else-kinds
-use Rattle.da_walk.proofs.+da_arm+da_arms+da_block+da_branches+da_case+da_controlled+da_else+da_for+da_for_rounds+da_forever+da_if+da_inner+da_repeat+da_rounds+da_while.Lts-da_else as da-else-lts
+use Rattle.da_walk.proofs.+da_arm+da_arms+da_block+da_branches+da_case+da_controlled+da_else+da_for+da_forever+da_if+da_inner+da_repeat+da_rounds+da_while.Lts-da_else as da-else-lts
 use Rattle.da_walk.proofs.da_for.Reads as da-for
 use Rattle.da_walk.proofs.da_for.Kinds as da-for-kinds
-use Rattle.da_walk.proofs.+da_arm+da_arms+da_block+da_branches+da_case+da_controlled+da_else+da_for+da_for_rounds+da_forever+da_if+da_inner+da_repeat+da_rounds+da_while.Lts-da_for as da-for-lts
-use Rattle.da_walk.proofs.da_for_rounds.Reads as da-for-rounds
-use Rattle.da_walk.proofs.da_for_rounds.Kinds as da-for-rounds-kinds
-use Rattle.da_walk.proofs.+da_arm+da_arms+da_block+da_branches+da_case+da_controlled+da_else+da_for+da_for_rounds+da_forever+da_if+da_inner+da_repeat+da_rounds+da_while.Lts-da_for_rounds as da-for-rounds-lts
+use Rattle.da_walk.proofs.+da_arm+da_arms+da_block+da_branches+da_case+da_controlled+da_else+da_for+da_forever+da_if+da_inner+da_repeat+da_rounds+da_while.Lts-da_for as da-for-lts
 use Rattle.da_walk.proofs.da_forever.Reads as da-forever
 use Rattle.da_walk.proofs.da_forever.Kinds as da-forever-kinds
-use Rattle.da_walk.proofs.+da_arm+da_arms+da_block+da_branches+da_case+da_controlled+da_else+da_for+da_for_rounds+da_forever+da_if+da_inner+da_repeat+da_rounds+da_while.Lts-da_forever as da-forever-lts
+use Rattle.da_walk.proofs.+da_arm+da_arms+da_block+da_branches+da_case+da_controlled+da_else+da_for+da_forever+da_if+da_inner+da_repeat+da_rounds+da_while.Lts-da_forever as da-forever-lts
 use Rattle.da_walk.proofs.da_if.Reads as da-if
 use Rattle.da_walk.proofs.da_if.Kinds as da-if-kinds
-use Rattle.da_walk.proofs.+da_arm+da_arms+da_block+da_branches+da_case+da_controlled+da_else+da_for+da_for_rounds+da_forever+da_if+da_inner+da_repeat+da_rounds+da_while.Lts-da_if as da-if-lts
+use Rattle.da_walk.proofs.+da_arm+da_arms+da_block+da_branches+da_case+da_controlled+da_else+da_for+da_forever+da_if+da_inner+da_repeat+da_rounds+da_while.Lts-da_if as da-if-lts
 use Rattle.da_walk.proofs.da_inner.Reads as da-inner
 use Rattle.da_walk.proofs.da_inner.Kinds as da-inner-kinds
-use Rattle.da_walk.proofs.+da_arm+da_arms+da_block+da_branches+da_case+da_controlled+da_else+da_for+da_for_rounds+da_forever+da_if+da_inner+da_repeat+da_rounds+da_while.Lts-da_inner as da-inner-lts
+use Rattle.da_walk.proofs.+da_arm+da_arms+da_block+da_branches+da_case+da_controlled+da_else+da_for+da_forever+da_if+da_inner+da_repeat+da_rounds+da_while.Lts-da_inner as da-inner-lts
 use Rattle.da_walk.proofs.da_repeat.Reads as da-repeat
 use Rattle.da_walk.proofs.da_repeat.Kinds as da-repeat-kinds
-use Rattle.da_walk.proofs.+da_arm+da_arms+da_block+da_branches+da_case+da_controlled+da_else+da_for+da_for_rounds+da_forever+da_if+da_inner+da_repeat+da_rounds+da_while.Lts-da_repeat as da-repeat-lts
+use Rattle.da_walk.proofs.+da_arm+da_arms+da_block+da_branches+da_case+da_controlled+da_else+da_for+da_forever+da_if+da_inner+da_repeat+da_rounds+da_while.Lts-da_repeat as da-repeat-lts
 use Rattle.da_walk.proofs.da_rounds.Reads as da-rounds
 use Rattle.da_walk.proofs.da_rounds.Kinds as da-rounds-kinds
-use Rattle.da_walk.proofs.+da_arm+da_arms+da_block+da_branches+da_case+da_controlled+da_else+da_for+da_for_rounds+da_forever+da_if+da_inner+da_repeat+da_rounds+da_while.Lts-da_rounds as da-rounds-lts
+use Rattle.da_walk.proofs.+da_arm+da_arms+da_block+da_branches+da_case+da_controlled+da_else+da_for+da_forever+da_if+da_inner+da_repeat+da_rounds+da_while.Lts-da_rounds as da-rounds-lts
 use Rattle.da_walk.proofs.da_while.Reads as da-while
 use Rattle.da_walk.proofs.da_while.Kinds as da-while-kinds
-use Rattle.da_walk.proofs.+da_arm+da_arms+da_block+da_branches+da_case+da_controlled+da_else+da_for+da_for_rounds+da_forever+da_if+da_inner+da_repeat+da_rounds+da_while.Lts-da_while as da-while-lts
+use Rattle.da_walk.proofs.+da_arm+da_arms+da_block+da_branches+da_case+da_controlled+da_else+da_for+da_forever+da_if+da_inner+da_repeat+da_rounds+da_while.Lts-da_while as da-while-lts
 use Rattle.da.proofs.merge.Reads as merge-reads
 use Rattle.da.proofs.state.Reads as state-reads
 use Rattle.da_leaf.proofs.construct_from.Reads as construct-from-reads
@@ -67,13 +64,14 @@ use Rattle.da_rows.proofs.is_default.Reads as is-default-reads
 use Rattle.da_rows.proofs.rounds_write.Reads as rounds-write-reads
 use Rattle.da_rows.proofs.unless_label_read.Reads as unless-label-read-reads
 use Rattle.kinds.proofs.stmt_class.Reads as stmt-class-reads
+use Rattle.da_walk.proofs.for_parts.Reads as for-parts-reads
 use Rattle.table.proofs.kind_at.Reads as kind-at-reads
 use Rattle.table.proofs.next_at.Reads as next-at-reads
 use Rattle.table.proofs.row_end.Reads as row-end-reads
-use Rattle.da_walk.proofs.+da_arm+da_arms+da_block+da_branches+da_case+da_controlled+da_else+da_for+da_for_rounds+da_forever+da_if+da_inner+da_repeat+da_rounds+da_while.{
+use Rattle.da_walk.proofs.+da_arm+da_arms+da_block+da_branches+da_case+da_controlled+da_else+da_for+da_forever+da_if+da_inner+da_repeat+da_rounds+da_while.{
   statement,
 }
-use Rattle.da_walk.proofs.+da_arm+da_arms+da_block+da_branches+da_case+da_controlled+da_else+da_for+da_for_rounds+da_forever+da_if+da_inner+da_repeat+da_rounds+da_while.Tie.{
+use Rattle.da_walk.proofs.+da_arm+da_arms+da_block+da_branches+da_case+da_controlled+da_else+da_for+da_forever+da_if+da_inner+da_repeat+da_rounds+da_while.Tie.{
   close,
 }
 
@@ -100,9 +98,6 @@ abbrev μ-da-else : Measures 2 da-else-kinds.ps ℕ
 
 abbrev μ-da-for : Measures 2 da-for-kinds.ps ℕ
 μ-da-for κs a = 5 * (a .1 .1 .1 .1 .0 - a .1 .1 .1 .0) + 3
-
-abbrev μ-da-for-rounds : Measures 2 da-for-rounds-kinds.ps ℕ
-μ-da-for-rounds κs a = 5 * (a .1 .1 .1 .1 .1 .1 .0 - a .1 .1 .1 .0) + 2
 
 abbrev μ-da-forever : Measures 2 da-forever-kinds.ps ℕ
 μ-da-forever κs a = 5 * (a .1 .1 .1 .1 .0 - a .1 .1 .1 .0) + 3
@@ -178,12 +173,6 @@ da-for-at t = and 2 da-for-kinds.ps (is 2 da-for-kinds.ps μ-da-for t) da-for.Pr
 
 abbrev da-for-below : ℕ → In 2 da-for-kinds.ps
 da-for-below t = and 2 da-for-kinds.ps (falls 2 da-for-kinds.ps _<_ μ-da-for t) da-for.Pre
-
-abbrev da-for-rounds-at : ℕ → In 2 da-for-rounds-kinds.ps
-da-for-rounds-at t = and 2 da-for-rounds-kinds.ps (is 2 da-for-rounds-kinds.ps μ-da-for-rounds t) da-for-rounds.Pre
-
-abbrev da-for-rounds-below : ℕ → In 2 da-for-rounds-kinds.ps
-da-for-rounds-below t = and 2 da-for-rounds-kinds.ps (falls 2 da-for-rounds-kinds.ps _<_ μ-da-for-rounds t) da-for-rounds.Pre
 
 abbrev da-forever-at : ℕ → In 2 da-forever-kinds.ps
 da-forever-at t =
@@ -261,10 +250,7 @@ abbrev da-else-calls : ℕ → da-else-lts.Claims
 da-else-calls t = (is-absent-reads.Asked, is-absent-reads.Learnt, da-inner-below t, da-inner.Post)
 
 abbrev da-for-calls : ℕ → da-for-lts.Claims
-da-for-calls t = (da-inner-below t, da-inner.Post, next-at-reads.Asked, next-at-reads.Learnt, state-reads.Asked, state-reads.Learnt, evaluate-reads.Asked, evaluate-reads.Learnt, da-for-rounds-below t, da-for-rounds.Post)
-
-abbrev da-for-rounds-calls : ℕ → da-for-rounds-lts.Claims
-da-for-rounds-calls t = (da-rounds-below t, da-rounds.Post, da-inner-below t, da-inner.Post)
+da-for-calls t = (da-inner-below t, da-inner.Post, for-parts-reads.Asked, for-parts-reads.Learnt, state-reads.Asked, state-reads.Learnt, evaluate-reads.Asked, evaluate-reads.Learnt, rounds-write-reads.Asked, rounds-write-reads.Learnt)
 
 abbrev da-forever-calls : ℕ → da-forever-lts.Claims
 da-forever-calls t = (da-rounds-below t, da-rounds.Post)
@@ -284,9 +270,9 @@ da-rounds-calls t = (da-inner-below t, da-inner.Post, rounds-write-reads.Asked, 
 abbrev da-while-calls : ℕ → da-while-lts.Claims
 da-while-calls t = (next-at-reads.Asked, next-at-reads.Learnt, evaluate-reads.Asked, evaluate-reads.Learnt, da-rounds-below t, da-rounds.Post)
 
-pub +da-arm+da-arms+da-block+da-branches+da-case+da-controlled+da-else+da-for+da-for-rounds+da-forever+da-if+da-inner+da-repeat+da-rounds+da-while-spec :
+pub +da-arm+da-arms+da-block+da-branches+da-case+da-controlled+da-else+da-for+da-forever+da-if+da-inner+da-repeat+da-rounds+da-while-spec :
     {M : Type 1} → statement M
-+da-arm+da-arms+da-block+da-branches+da-case+da-controlled+da-else+da-for+da-for-rounds+da-forever+da-if+da-inner+da-repeat+da-rounds+da-while-spec =
++da-arm+da-arms+da-block+da-branches+da-case+da-controlled+da-else+da-for+da-forever+da-if+da-inner+da-repeat+da-rounds+da-while-spec =
     close
     μ-da-arm
     μ-da-arms
@@ -296,7 +282,6 @@ pub +da-arm+da-arms+da-block+da-branches+da-case+da-controlled+da-else+da-for+da
     μ-da-controlled
     μ-da-else
     μ-da-for
-    μ-da-for-rounds
     μ-da-forever
     μ-da-if
     μ-da-inner
@@ -401,29 +386,22 @@ pub +da-arm+da-arms+da-block+da-branches+da-case+da-controlled+da-else+da-for+da
     (λ c. search needs)
     (λ c. search needs)
     (λ c. search looping)
-    (λ c. search needs)
-    (λ c κs. search needs)
-    (λ c κs. search needs)
     (λ c κs. search needs)
     (λ c κs. search needs)
     (λ c κs. search needs)
     (λ c. search needs)
     (λ c. search needs)
-    (λ c κs. search (needs, looping))
-    (λ c. search looping)
-    (λ c. search looping))
-    (λ t. da-for-rounds-lts.spec (da-for-rounds-calls t)
-    (da-for-rounds-at t)
-    da-for-rounds.Post
     (λ c κs. search needs)
     (λ c. search needs)
     (λ c. search needs)
     (λ c. search looping)
-    (λ c κs. search needs)
+    (λ c κs. search (needs, c .before .before .before .before .before .before .before .before .before .before .before .before .before .before .before .before .pre, c .before .before .before .before .before .before .before .before .before .for-parts .ensures))
     (λ c. search needs)
     (λ c. search needs)
+    (λ c. search (for-step, c .before .before .before .before .before .before .before .before .before .before .before .before .before .before .before .before .before .before .before .pre, c .before .before .before .before .before .before .before .before .before .before .before .before .before .before .before .before .da-inner .ensures, c .before .before .before .before .before .before .before .before .before .before .before .before .before .before .r .given, c .before .before .before .before .before .before .before .before .before .before .before .before .before .known-told .given, c .before .before .before .before .before .before .before .before .before .before .before .before .for-parts .ensures, c .before .before .before .before .before .before .before .before .before .before .before .state .ensures, c .before .before .before .before .before .before .before .before .before .before .evaluate .ensures, c .before .before .before .before .before .before .before .before .e2 .given, c .before .before .before .before .before .before .da-inner2 .ensures, c .before .before .before .before .q .given, c .before .before .da-inner3 .ensures, c .enum-told3 .given))
+    (λ c κs. search (needs, c .before .before .before .before .before .before .before .before .before .before .before .before .before .for-parts .ensures))
     (λ c. search looping)
-    (λ c. search looping))
+    (λ c. for-falls _ _ _ _ _ _ (c .before .before .before .before .before .before .before .before .before .before .before .before .before .before .before .before .before .before .da-inner .ensures) _ _ _ (c .before .before .before .before .before .before .before .before .before .before .before .before .before .before .before .before .r .given .1) (c .before .before .before .before .before .before .before .before .before .before .before .before .before .state .ensures) (c .before .before .before .before .before .before .before .before .before .before .before .before .before .before .before .before .before .before .before .before .before .pre .1) (c .before .before .before .before .before .before .before .before .before .before .before .before .before .before .for-parts .ensures) _ (c .before .before .before .before .before .before .before .before .before .before .before .before .evaluate .ensures) _ _ (c .before .before .before .before .before .before .before .before .before .before .e2 .given .1) (c .before .before .before .before .before .before .before .before .da-inner2 .ensures) _ _ (c .before .before .before .before .before .before .q .given .1) (c .before .before .before .before .da-inner3 .ensures) _ _ (c .before .before .s .given .1) (c .rounds-write .ensures)))
     (λ t. da-forever-lts.spec (da-forever-calls t)
     (da-forever-at t)
     da-forever.Post

@@ -1,10 +1,10 @@
 use borrow.Author.Needs.{needs}
 use Rattle.one_pass.proofs.Several.{name}
-use Rattle.one_pass.proofs.is_name.Statement.{statement}
-use Rattle.one_pass.proofs.is_name.Tie as tie
+use Rattle.one_pass.proofs.holds_name.Statement.{statement}
+use Rattle.one_pass.proofs.holds_name.Tie as tie
 
-pub is-name-spec : {M : Type 1} → statement M
-is-name-spec =
+pub holds-name-spec : {M : Type 1} → statement M
+holds-name-spec =
     tie.close
     (tie.spec
     (λ c. search needs)

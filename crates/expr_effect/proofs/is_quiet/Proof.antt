@@ -1,7 +1,0 @@
-use borrow.Author.Needs.{needs}
-use Rattle.expr_effect.proofs.Quiet.{quiet-answers}
-use Rattle.expr_effect.proofs.is_quiet.Statement.{statement}
-use Rattle.expr_effect.proofs.is_quiet.Tie as tie
-
-pub is-quiet-spec : {M : Type 1} → statement M
-is-quiet-spec = tie.close (tie.spec (λ c κs. search needs) (λ c κs. search needs) (λ c. (search quiet-answers, search quiet-answers)))
