@@ -23,9 +23,9 @@ use Rattle.da.specs.Outcome.{written}
 use Rattle.da.specs.Walk.{unlessOneRead, callEffect, task}
 use Rattle.da_rows.specs.declared.Context.{Context}
 use Rattle.da_leaf.specs.declared.Construct.{Construct}
-use Rattle.da_leaf.specs.declared.Construct.the-variants.{Written, Leaf}
+use Rattle.da_leaf.specs.declared.Construct.the-variants.{Written, Leaf, Controlled, Arm, Block, If, Case, For, While, Repeat, Forever}
 use Rattle.da_rows.specs.Tables.{untimed, stmtAt, factsIn, heldIn}
-use Rattle.da_leaf.specs.Leaves.{constructOf, staysWritten, constructFrom, leafAt}
+use Rattle.da_leaf.specs.Leaves.{constructOf, staysWritten, constructFrom, leafAt, referringAt}
 
 -- the tags of the classes that `class_stays_written` does not name, after the first
 abbrev otherTags : List ℕ
@@ -119,3 +119,49 @@ module _ (ctx : Context) (rows names : List ℕ) (i end : ℕ) where
   stays-falls K.Default h = true-not-false (sym h)
   stays-falls K.Absent h = true-not-false (sym h)
   stays-falls K.NoStmt h = true-not-false (sym h)
+
+  -- what a timing control asks
+  abbrev isControlled : Construct → Bool
+  isControlled Controlled = true
+  isControlled Written = false
+  isControlled Leaf = false
+  isControlled Arm = false
+  isControlled Block = false
+  isControlled If = false
+  isControlled Case = false
+  isControlled For = false
+  isControlled While = false
+  isControlled Repeat = false
+  isControlled Forever = false
+
+  abbrev asked : StmtClass → DaResult
+  asked class = cond (isControlled (constructOf class)) (referringAt (untimed ctx names) rows class i end written) (Ok (Falls written))
+
+  control-asked : (class : StmtClass) → asked class ≡ Ok (Falls written)
+  control-asked K.Delayctrl = no-read-matters (heldIn (ctx .local) rows (i + 1) end) (Ok (Falls written))
+  control-asked K.Eventctrl = refl
+  control-asked K.Wait = refl
+  control-asked K.Blocking = refl
+  control-asked K.Task = refl
+  control-asked K.Decl = refl
+  control-asked K.Fork = refl
+  control-asked K.Null = refl
+  control-asked K.Systask = refl
+  control-asked K.Unmodelled = refl
+  control-asked K.Nonblocking = refl
+  control-asked K.Return = refl
+  control-asked K.Disable = refl
+  control-asked K.If = refl
+  control-asked K.Case = refl
+  control-asked K.For = refl
+  control-asked K.While = refl
+  control-asked K.Repeat = refl
+  control-asked K.Forever = refl
+  control-asked K.Block = refl
+  control-asked K.Match = refl
+  control-asked K.Default = refl
+  control-asked K.Absent = refl
+  control-asked K.NoStmt = refl
+
+  pub control-falls : (class : StmtClass) → constructOf class ≡ Controlled → referringAt (untimed ctx names) rows class i end written ≡ Ok (Falls written)
+  control-falls class e = rw e at (control-asked class)

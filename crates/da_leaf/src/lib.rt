@@ -276,7 +276,7 @@ pub enum Construct {
     Forever,
 }
 
-fn construct_of(class: StmtClass) -> Construct
+pub fn construct_of(class: StmtClass) -> Construct
     ensures { λ r. ⌜ r ≡ constructOf class ⌝ }
 {
     match class {

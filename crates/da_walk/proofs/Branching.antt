@@ -4,12 +4,11 @@ use mathlib.Core.Bool.{Bool, true, false, cond, not, _&&_, _||_, or-assoc, or-fa
 use mathlib.Core.List.{List}
 use Prim.Native.Nat.{ℕ, _+_, _≤_, _<_}
 use borrow.Author.Tests.{lt-ltb}
-use Rattle.table.specs.Rows.{kindAt, endAt, tree, Nested, RowEnd, NextRow}
+use Rattle.table.specs.Rows.{endAt, tree, Nested, RowEnd, NextRow}
 use Rattle.table.specs.Fold.{nth, tail}
 use Rattle.table.proofs.Fold.{fold-none, fold-step, fold-next, fold-tail}
 use Rattle.table.proofs.Loops.{Goes, goes-start, goes-on}
 use Rattle.kinds.specs.declared.StmtClass.{StmtClass}
-use Rattle.kinds.specs.Named.{stmtClass}
 use Rattle.expr_effect.specs.Law.{ExprFacts}
 use Rattle.da.specs.declared.DaOut.{DaOut}
 use Rattle.da.specs.declared.DaOut.the-variants.{Falls, Jumps}
@@ -18,18 +17,16 @@ use Rattle.da.specs.declared.DaResult.{DaResult}
 use Rattle.da.specs.declared.DaResult.the-variants.{Ok, Err}
 use Rattle.da.specs.Outcome.{State, isWritten, merge, _▷_, goOn}
 use Rattle.da.specs.Walk.{DaCtx, Walk, noWalk, unlessOneRead, ifElse, block, arms, hasDefault, caseOf, walkAt, daStmt}
-use Rattle.da_rows.specs.declared.Context.{Context}
 use Rattle.da_rows.specs.declared.States.{States}
 use Rattle.da_rows.specs.declared.Evaluated.{Evaluated}
 use Rattle.da_rows.specs.declared.Evaluated.the-variants.{To, Read}
-use Rattle.da_rows.specs.Tables.{untimed, factIn}
+use Rattle.da_rows.specs.Tables.{factIn}
 use Rattle.da_rows.specs.Asking.{evaluation}
 use Rattle.da_rows.specs.Parts.{partAt, partIn, isDefaultPart, isAbsentPart, labelsIn, caseOut}
 use Rattle.da_rows.proofs.Asking.{states-are, evaluated-stops, evaluated-goes, unless-one-then}
 use Rattle.da_rows.proofs.Parts.{first-absent, first-default, first-labels}
-use Rattle.da_leaf.specs.Leaves.{staysWritten, referringAt}
+use Rattle.da_leaf.specs.Leaves.{referringAt}
 use Rattle.da_walk.specs.Constructs.{walksIn, walkIn, blockIn, ifIn, branches, branchesIn, elseIn, caseIn, armsFrom, armsIn, armIn, controlledAt}
-use Rattle.da_walk.proofs.Dispatch.{inner-stays}
 
 -- da_controlled
 module _ (ctx : DaCtx) (rows : List ℕ) (class : StmtClass) (i end : ℕ) (a : State) (r : DaResult) (e : r ≡ referringAt ctx rows class i end a) where
@@ -64,17 +61,6 @@ module _ (ctx : DaCtx) (rows : List ℕ) (from to i : ℕ) (a₀ a : State) (w :
 
     pub block-on : (out : DaOut) (b : State) (n : ℕ) → r ≡ Ok out → out ≡ Falls b → RowEnd rows i to n → Goes rows from to n (blockIn ctx rows from to a₀) (blockIn ctx rows n to b)
     block-on out b n o j t = goes-on w t (block-step n (t .is) ∙ rw (o, j))
-
--- or with the row after one that a written local stays written in
-pub block-stays : (c : Context) (rows names : List ℕ) (from to i : ℕ) (a₀ a b : State) (n : ℕ)
-    → Goes rows from to i (blockIn (untimed c names) rows from to a₀) (blockIn (untimed c names) rows i to a)
-    → i < to
-    → b ≡ a && staysWritten (stmtClass (kindAt rows i))
-    → b ≡ true
-    → RowEnd rows i to n
-    → Goes rows from to n (blockIn (untimed c names) rows from to a₀) (blockIn (untimed c names) rows n to a)
-block-stays c rows names from to i a₀ a b n w h e t r =
-    block-on (untimed c names) rows from to i a₀ a w (Ok (Falls a)) h (inner-stays c rows names i to a b (w .nested) h e t) (Falls a) a n refl refl r
 
 -- da_if and da_case ask first
 if-after : (c : ExprFacts) (t e : Walk) (a : State) (q : Evaluated) (states : States) → q ≡ evaluation c a → q ≡ To states → branches t e states ≡ ifElse c t e a
@@ -185,6 +171,3 @@ module _ (ctx : DaCtx) (rows : List ℕ) (from to : ℕ) (a : State) (r : DaResu
   arm-walked out s h v = v ∙ sym (labels-then _ ∙ rw h)
 
 pub ruleset branching = (controlled-stops, controlled-body, block-start, block-done, block-stops, block-jumps, block-on, if-stops, if-goes, then-stops, else-stops, branches-meet, else-absent, else-walked, case-stops, case-goes, arms-start, arms-done, arms-stop, arms-on, arm-stops, arm-walked)
-
--- apart from the others: at a place where `block-on` is wanted it would be tried first
-pub ruleset passing-over = (block-stays)

@@ -20,10 +20,10 @@ use Rattle.da_rows.specs.declared.Context.{Context}
 use Rattle.da_rows.specs.Tables.{untimed, stmtAt, factsIn, factIn, heldIn}
 use Rattle.da_rows.proofs.Asking.{unless-then, unless-one-then}
 use Rattle.da_leaf.specs.declared.Construct.{Construct}
-use Rattle.da_leaf.specs.declared.Construct.the-variants.{Written}
+use Rattle.da_leaf.specs.declared.Construct.the-variants.{Written, Leaf, Controlled, Arm, Block, If, Case, For, While, Repeat, Forever}
 use Rattle.da_leaf.specs.Leaves.{constructOf, asksFirst, staysWritten, constructFrom, LeafRow}
 use Rattle.da_leaf.proofs.Written.{stays-falls}
-use Rattle.da_walk.specs.Constructs.{walksIn, constructAt}
+use Rattle.da_walk.specs.Constructs.{walksIn, ControlRow, constructAt}
 
 -- no row
 pub inner-none : (ctx : DaCtx) (rows : List ℕ) (from to : ℕ) (a : State) → to ≤ from → Ok (Falls a) ≡ daStmt ctx (tree rows from to) a
@@ -71,7 +71,7 @@ module _ (c : Context) (rows names : List ℕ) (from to end : ℕ) (a : State) (
   unfolding stmtNoRef
   vetted-as = rw q
 
-  row-walk : daStmt (untimed c names) (tree rows from to) a ≡ constructAt (untimed c names) rows class from end a (constructOf class)
+  pub row-walk : daStmt (untimed c names) (tree rows from to) a ≡ constructAt (untimed c names) rows class from end a (constructOf class)
   unfolding walkAt
   row-walk = ap (λ (ws : List Walk). nth noWalk 0 ws .walk a) (fold-some (walkAt (untimed c names)) g h) ∙ rw (← e, ← q) (walked-by c rows names from end a class vetted-as)
 
@@ -89,7 +89,7 @@ module _ (c : Context) (rows names : List ℕ) (from to end : ℕ) (a : State) (
       go true s = sym (row-stays s)
       go false s = row-walk
 
--- da_block asks for a statement that a written local stays written in
+-- a statement that a written local stays written in
 pub inner-stays : (c : Context) (rows names : List ℕ) (from to : ℕ) (a b : State)
     → Nested rows from to
     → from < to
@@ -134,8 +134,44 @@ leaf-row rows from to end n a class construct named t p q e s v = record {
   leaf = asks-first class a named (sym e ∙ s) v;
 }
 
+abbrev isWrittenConstruct : Construct → Bool
+isWrittenConstruct Written = true
+isWrittenConstruct Leaf = false
+isWrittenConstruct Controlled = false
+isWrittenConstruct Arm = false
+isWrittenConstruct Block = false
+isWrittenConstruct If = false
+isWrittenConstruct Case = false
+isWrittenConstruct For = false
+isWrittenConstruct While = false
+isWrittenConstruct Repeat = false
+isWrittenConstruct Forever = false
+
+-- what da_controlled asks
+pub control-row : (rows : List ℕ) (from to end n : ℕ) (a : State) (class : StmtClass) (construct : Construct)
+    → RowEnd rows from to end
+    → n ≡ kindAt rows from
+    → class ≡ stmtClass n
+    → construct ≡ constructFrom class a
+    → construct ≡ Controlled
+    → ControlRow rows class from end
+control-row rows from to end n a class construct t p q e s = record {
+  leaf = leaf-row rows from to end n a class construct Controlled t p q e s refl;
+  controlled = go (a && staysWritten class) refl;
+  row = t .alone;
+  after = t .after;
+  children = t .children;
+}
+  where
+    written-not : Written ≡ Controlled → constructOf class ≡ Controlled
+    written-not z = true-not-false (ap isWrittenConstruct z)
+
+    go : (b : Bool) → a && staysWritten class ≡ b → constructOf class ≡ Controlled
+    go true v = written-not (rw v at (sym e ∙ s))
+    go false v = rw v at (sym e ∙ s)
+
 -- and what the loops ask
 pub row-alone : (rows : List ℕ) (from to end : ℕ) → RowEnd rows from to end → RowAlone rows from end
 row-alone rows from to end t = record { is = t .is; after = t .after; alone = t .alone; children = t .children }
 
-pub ruleset dispatch = (inner-none, inner-by, leaf-row, row-alone)
+pub ruleset dispatch = (inner-none, inner-by, leaf-row, control-row, row-alone)

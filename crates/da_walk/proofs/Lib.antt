@@ -1,4 +1,5 @@
 pub mod Dispatch
 pub mod Branching
+pub mod Passing
 pub mod Looping
 pub mod Asked

@@ -17,12 +17,13 @@ use Rattle.da.specs.declared.DaResult.{DaResult}
 use Rattle.da.specs.declared.DaResult.the-variants.{Ok}
 use Rattle.da.specs.Outcome.{State, merge, _▷_}
 use Rattle.da.specs.Walk.{DaCtx, Walk, noWalk, unlessOneRead, elseFrom, ifElse, block, arms, hasDefault, caseOf, rounds, whileTrue, forFrom, repeated, walks, daStmt}
+use Rattle.da_rows.specs.declared.Context.{Context}
 use Rattle.da_rows.specs.declared.States.{States}
-use Rattle.da_rows.specs.Tables.{stmtAt, factsIn, factIn}
+use Rattle.da_rows.specs.Tables.{untimed, stmtAt, factsIn, factIn}
 use Rattle.da_rows.specs.Parts.{caseOut}
 use Rattle.da_leaf.specs.declared.Construct.{Construct}
 use Rattle.da_leaf.specs.declared.Construct.the-variants.{Written, Leaf, Controlled, Arm, Block, If, Case, For, While, Repeat, Forever}
-use Rattle.da_leaf.specs.Leaves.{leafAt, referringAt}
+use Rattle.da_leaf.specs.Leaves.{constructOf, LeafRow, leafAt, referringAt}
 use Rattle.da_walk.specs.declared.ForParts.{ForParts}
 
 -- the walks of the rows from `from` up to `to`: each sibling's
@@ -71,6 +72,18 @@ armsIn ctx rows from to after = armsFrom Jumps false (walksIn ctx rows from to) 
 -- one of its arms
 abbrev pub armIn : DaCtx → List ℕ → ℕ → ℕ → State → DaResult
 armIn ctx rows from to after = unlessOneRead (walkIn ctx rows from to .labels) after (walkIn ctx rows from to .walk after)
+
+-- what `passes_over` tells: da_stmt of the first of these rows falls with the state that it is entered with, in every context
+pub record PassedOver (rows : List ℕ) (from to : ℕ) (a : State) (r : Bool) : Type 0 where
+  pub falls : r ≡ true → (ctx : Context) (names : List ℕ) → Ok (Falls a) ≡ daStmt (untimed ctx names) (tree rows from to) a
+
+-- row i is a timing control
+pub record ControlRow (rows : List ℕ) (class : StmtClass) (i end : ℕ) : Type 0 where
+  pub leaf : LeafRow rows class i end
+  pub controlled : constructOf class ≡ Controlled
+  pub row : Nested rows i end
+  pub after : i < end
+  pub children : Nested rows (i + 1) end
 
 -- S::DelayCtrl, S::EventCtrl, S::Wait in row i, which ends at `end`, and which stmt_no_ref never lets through: what is asked first, then
 -- the body

@@ -15,8 +15,7 @@ ghost use Rattle.da.specs.Walk.{daCtx, daStmt};
 ghost use Rattle.soundness.specs.Demand3.{WalkMeans};
 ghost use Rattle.sheet_record.specs.Records.{marksOf};
 ghost use Rattle.da_rows.specs.Tables.{untimed};
-ghost use Rattle.da_leaf.specs.Leaves.{LeafRow};
-ghost use Rattle.da_walk.specs.Constructs.{blockIn, ifIn, branchesIn, elseIn, caseIn, armsIn, armIn, controlledAt, LoopAt, roundsAt, ForRow, forAt, whileAt, repeatAt, foreverAt, StatementIn, advancesAlone};
+ghost use Rattle.da_walk.specs.Constructs.{blockIn, ifIn, branchesIn, elseIn, caseIn, armsIn, armIn, PassedOver, ControlRow, controlledAt, LoopAt, roundsAt, ForRow, forAt, whileAt, repeatAt, foreverAt, StatementIn, advancesAlone};
 
 // The walk of the first of the rows from `from` up to `to`. Whether time can advance has been asked of a statement that holds it.
 fn da_inner(
@@ -51,6 +50,30 @@ fn da_inner(
     }
 }
 
+// Whether the first of the rows from `from` up to `to` need not be walked, since the local is written and stays so: a statement that does
+// nothing but fall, or a timing control of such a one or of none. A no says nothing.
+fn passes_over(rows: &[u32], from: usize, to: usize, assigned: bool) -> bool
+    requires { ⌜ (Nested (now rows) from to) × (from < to) ⌝ }
+    ensures { λ r. ⌜ PassedOver (now (rows .entry)) from to assigned r ⌝ }
+{
+    if !assigned {
+        return false;
+    }
+    if da_leaf::stays_written(rows, from, assigned) {
+        return true;
+    }
+    let construct = da_leaf::construct_of(kinds::stmt_class(table::kind_at(rows, from)));
+    let Construct::Controlled = construct else {
+        return false;
+    };
+    let end = table::row_end(rows, from, to);
+    let body = table::next_at(rows, from + 1, end);
+    if end <= body {
+        return true;
+    }
+    da_leaf::stays_written(rows, body, assigned)
+}
+
 // A delay, an event control or a wait in row i: what it asks, then its body.
 fn da_controlled(
     rows: &[u32],
@@ -61,9 +84,12 @@ fn da_controlled(
     end: usize,
     assigned: bool,
 ) -> DaResult
-    requires { ⌜ LeafRow (now rows) class i end ⌝ }
+    requires { ⌜ ControlRow (now rows) class i end ⌝ }
     ensures { λ r. ⌜ r ≡ controlledAt (untimed ctx (now (names .entry))) (now (rows .entry)) class i end assigned ⌝ }
 {
+    if passes_over(rows, i, end, assigned) {
+        return DaResult::Ok(DaOut::Falls(assigned));
+    }
     let r = da_leaf::da_referring(rows, names, ctx, class, i, end, assigned);
     let DaResult::Ok(out) = r else {
         return r;
@@ -88,7 +114,7 @@ fn da_block(
     let mut child = from;
     let mut a = assigned;
     while child < to {
-        if da_leaf::stays_written(rows, child, a) {
+        if passes_over(rows, child, to, a) {
             child = table::row_end(rows, child, to);
         } else {
             let r = da_inner(rows, names, ctx, child, to, a);

@@ -4,7 +4,8 @@ use Rattle.da_walk.specs.Constructs.{walksIn, blockIn, armsFrom, armsIn}
 use borrow.Author.Needs.{needs}
 use Rattle.table.proofs.Loops.{Goes}
 use Rattle.da_walk.proofs.Dispatch.{dispatch}
-use Rattle.da_walk.proofs.Branching.{branching, passing-over}
+use Rattle.da_walk.proofs.Branching.{branching}
+use Rattle.da_walk.proofs.Passing.{passing-over}
 use Rattle.da_walk.proofs.Looping.{looping, for-step, for-falls}
 use borrow.Fn.Kinds.{In}
 use borrow.Fn.PlainCycle.{Measures, is, falls, and}
@@ -55,7 +56,6 @@ use Rattle.da.proofs.state.Reads as state-reads
 use Rattle.da_leaf.proofs.construct_from.Reads as construct-from-reads
 use Rattle.da_leaf.proofs.da_leaf.Reads as da-leaf-reads
 use Rattle.da_leaf.proofs.da_referring.Reads as da-referring-reads
-use Rattle.da_leaf.proofs.stays_written.Reads as stays-written-reads
 use Rattle.da_rows.proofs.case_out.Reads as case-out-reads
 use Rattle.da_rows.proofs.evaluate.Reads as evaluate-reads
 use Rattle.da_rows.proofs.gains.Reads as gains-reads
@@ -65,6 +65,7 @@ use Rattle.da_rows.proofs.rounds_write.Reads as rounds-write-reads
 use Rattle.da_rows.proofs.unless_label_read.Reads as unless-label-read-reads
 use Rattle.kinds.proofs.stmt_class.Reads as stmt-class-reads
 use Rattle.da_walk.proofs.for_parts.Reads as for-parts-reads
+use Rattle.da_walk.proofs.passes_over.Reads as passes-over-reads
 use Rattle.table.proofs.kind_at.Reads as kind-at-reads
 use Rattle.table.proofs.next_at.Reads as next-at-reads
 use Rattle.table.proofs.row_end.Reads as row-end-reads
@@ -235,7 +236,7 @@ abbrev da-block-μ-loop : da-block-lts.MeasureT-loop
 da-block-μ-loop rows names ctx from to assigned child₀ a₀ child a = to - child
 
 abbrev da-block-calls : ℕ → da-block-lts.Claims
-da-block-calls t = (stays-written-reads.Asked, stays-written-reads.Learnt, row-end-reads.Asked, row-end-reads.Learnt, da-inner-below t, da-inner.Post)
+da-block-calls t = (passes-over-reads.Asked, passes-over-reads.Learnt, row-end-reads.Asked, row-end-reads.Learnt, da-inner-below t, da-inner.Post)
 
 abbrev da-branches-calls : ℕ → da-branches-lts.Claims
 da-branches-calls t = (da-inner-below t, da-inner.Post, next-at-reads.Asked, next-at-reads.Learnt, da-else-below t, da-else.Post, merge-reads.Asked, merge-reads.Learnt)
@@ -244,7 +245,7 @@ abbrev da-case-calls : ℕ → da-case-lts.Claims
 da-case-calls t = (evaluate-reads.Asked, evaluate-reads.Learnt, next-at-reads.Asked, next-at-reads.Learnt, da-arms-below t, da-arms.Post)
 
 abbrev da-controlled-calls : ℕ → da-controlled-lts.Claims
-da-controlled-calls t = (da-referring-reads.Asked, da-referring-reads.Learnt, next-at-reads.Asked, next-at-reads.Learnt, da-inner-below t, da-inner.Post)
+da-controlled-calls t = (passes-over-reads.Asked, passes-over-reads.Learnt, da-referring-reads.Asked, da-referring-reads.Learnt, next-at-reads.Asked, next-at-reads.Learnt, da-inner-below t, da-inner.Post)
 
 abbrev da-else-calls : ℕ → da-else-lts.Claims
 da-else-calls t = (is-absent-reads.Asked, is-absent-reads.Learnt, da-inner-below t, da-inner.Post)
@@ -363,6 +364,8 @@ pub +da-arm+da-arms+da-block+da-branches+da-case+da-controlled+da-else+da-for+da
     (λ t. da-controlled-lts.spec (da-controlled-calls t)
     (da-controlled-at t)
     da-controlled.Post
+    (λ c κs. search needs)
+    (λ c. search passing-over)
     (λ c κs. search needs)
     (λ c. search needs)
     (λ c. search needs)
