@@ -144,7 +144,7 @@ fn da_blocking(rows: &[u32], local: usize, i: usize, end: usize, assigned: bool)
     requires { ⌜ RowAlone (now rows) i end ⌝ }
     ensures { λ r. ⌜ r ≡ blockingAt local (now (rows .entry)) i end assigned ⌝ }
 {
-    let r = da_rows::unless_held_read(rows, local, i + 1, end, assigned);
+    let r = da_rows::unless_delay_read(rows, local, i + 1, end, assigned);
     let DaResult::Ok(out) = r else {
         return r;
     };

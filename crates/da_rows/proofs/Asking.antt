@@ -3,10 +3,11 @@ use mathlib.Core.Path.{_≡_, refl, sym, ap, _∙_}
 use mathlib.Core.Bool.{Bool, true, false, cond, not, _&&_, Bool·not-not}
 use mathlib.Core.List.{List, [], _∷_}
 use Prim.Native.Nat.{ℕ, _+_, _≤_, _<_}
+use native.Mathlib.Omega.{arith}
 use lib.Dec.{ltb}
 use borrow.Author.Needs.{needs}
 use borrow.Author.Tests.{lt-ltb, le-ltb, ltb-true, ltb-false}
-use Rattle.table.specs.Rows.{loAt, hiAt, endAt, tree, Nested, RowEnd}
+use Rattle.table.specs.Rows.{loAt, hiAt, endAt, tree, Nested, RowEnd, NextRow}
 use Rattle.table.proofs.Fold.{fold-none, fold-some, fold-step}
 use Rattle.table.proofs.Loops.{Goes, goes-start, goes-on, loops}
 use Rattle.reads.specs.declared.Iff.the-variants.{Skipped}
@@ -180,7 +181,18 @@ module _ (x : ℕ) (rows : List ℕ) (from to : ℕ) (a : State) where
   unfolding heldAt
   held-some r n g h t e = e ∙ rw (fold-some (heldAt x) g h, t .is)
 
-pub ruleset unread = (needs, loops, unread-stops, unread-goes, ones-start, ones-done, ones-stop, ones-on, held-none, held-some)
+  -- a row that holds nothing
+  pub held-bare : (n : ℕ) → Nested rows from to → NextRow rows from to n → n ≤ from + 1 → Ok (Falls a) ≡ unlessOneRead (heldIn x rows from to) a (Ok (Falls a))
+  unfolding heldAt
+  held-bare n g t l = go (ltb from to) refl
+    where
+      go : (b : Bool) → ltb from to ≡ b → Ok (Falls a) ≡ unlessOneRead (heldIn x rows from to) a (Ok (Falls a))
+      go true e =
+          let z : n ≡ endAt rows from = rw e at (t .is) in
+          rw (fold-some (heldAt x) g (ltb-true from to e), fold-none (factsAt x) rows (from + 1) (endAt rows from) (omega arith))
+      go false e = held-none (ltb-false from to e)
+
+pub ruleset unread = (needs, loops, unread-stops, unread-goes, ones-start, ones-done, ones-stop, ones-on, held-none, held-some, held-bare)
 
 -- refers_unwritten
 module _ (x : ℕ) (rows : List ℕ) (from to : ℕ) (a : State) where

@@ -150,6 +150,24 @@ pub fn unless_held_read(
     unless_one_read(rows, local, from + 1, end, assigned)
 }
 
+// The same of the delay of an assignment: most have none, and that is told without a call.
+pub fn unless_delay_read(
+    rows: &[u32],
+    local: usize,
+    from: usize,
+    to: usize,
+    assigned: bool,
+) -> DaResult
+    requires { ⌜ Nested (now rows) from to ⌝ }
+    ensures { λ r. ⌜ r ≡ unlessOneRead (heldIn local (now (rows .entry)) from to) assigned (Ok (Falls assigned)) ⌝ }
+{
+    let next = table::next_at(rows, from, to);
+    if next <= from + 1 {
+        return DaResult::Ok(DaOut::Falls(assigned));
+    }
+    unless_held_read(rows, local, from, to, assigned)
+}
+
 // Whether the rows from `from` up to `to` refer to a local that is not written: an event is not evaluated, but vetted.
 pub fn refers_unwritten(rows: &[u32], local: usize, from: usize, to: usize, assigned: bool) -> bool
     requires { ⌜ Nested (now rows) from to ⌝ }

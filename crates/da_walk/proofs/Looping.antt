@@ -143,11 +143,9 @@ module _ (rows : List ℕ) (i end : ℕ) (g : RowAlone rows i end) where
   pub forever-at : LoopAt rows i (i + 1) end
   forever-at = record { below = omega arith; bodies = g .children }
 
-pub ruleset looping = (body-stops, rounds-fall, for-stops, for-reads, for-body-stops, for-step-stops, for-falls, while-reads, while-rounds, repeat-stops, repeat-goes, forever-goes, stepless-at, forever-at)
+pub ruleset looping = (body-stops, rounds-fall, for-stops, for-reads, for-body-stops, while-reads, while-rounds, repeat-stops, repeat-goes, forever-goes, stepless-at, forever-at)
 
 pub ruleset for-places = (for-row)
 
--- apart from the others: with fewer laws to try, the search reaches the facts at the end of `da_for`
+-- apart from the others: with one law to try, the search reaches the facts at the end of `da_for`
 pub ruleset for-step = (for-step-stops)
-
-pub ruleset for-end = (for-falls)

@@ -381,6 +381,7 @@ pub +da-arm+da-arms+da-block+da-branches+da-case+da-controlled+da-else+da-for+da
     (λ c. search branching)
     (λ c κs. search needs)
     (λ c. search branching))
+    -- the longest of the functions: its last facts are named, since the search does not reach as far
     (λ t. da-for-lts.spec (da-for-calls t)
     (da-for-at t)
     da-for.Post
