@@ -118,7 +118,8 @@ fn holds_name(rows: &[u32], row: usize, end: usize, to: usize, depth: usize, nam
     table::end_at(rows, row + 2) == end
 }
 
-// Whether an assignment has neither delay nor intra, and its target is a name: then its right side begins six rows on.
+// Whether an assignment has neither delay nor intra, and its target is a name: then its right side begins six rows on. The depth is asked
+// before it is added to.
 fn is_plain_assignment(
     rows: &[u32],
     row: usize,
