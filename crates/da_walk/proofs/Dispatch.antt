@@ -20,7 +20,7 @@ use Rattle.da_rows.specs.declared.Context.{Context}
 use Rattle.da_rows.specs.Tables.{untimed, stmtAt, factsIn, factIn, heldIn}
 use Rattle.da_rows.proofs.Asking.{unless-then, unless-one-then}
 use Rattle.da_leaf.specs.declared.Construct.{Construct}
-use Rattle.da_leaf.specs.declared.Construct.the-variants.{Written, Leaf, Controlled, Arm, Block, If, Case, For, While, Repeat, Forever}
+use Rattle.da_leaf.specs.declared.Construct.the-variants.{Written, Controlled}
 use Rattle.da_leaf.specs.Leaves.{constructOf, asksFirst, staysWritten, constructFrom, LeafRow}
 use Rattle.da_leaf.proofs.Written.{stays-falls}
 use Rattle.da_walk.specs.Constructs.{walksIn, ControlRow, constructAt}
@@ -134,19 +134,6 @@ leaf-row rows from to end n a class construct named t p q e s v = record {
   leaf = asks-first class a named (sym e ∙ s) v;
 }
 
-abbrev isWrittenConstruct : Construct → Bool
-isWrittenConstruct Written = true
-isWrittenConstruct Leaf = false
-isWrittenConstruct Controlled = false
-isWrittenConstruct Arm = false
-isWrittenConstruct Block = false
-isWrittenConstruct If = false
-isWrittenConstruct Case = false
-isWrittenConstruct For = false
-isWrittenConstruct While = false
-isWrittenConstruct Repeat = false
-isWrittenConstruct Forever = false
-
 -- what da_controlled asks
 pub control-row : (rows : List ℕ) (from to end n : ℕ) (a : State) (class : StmtClass) (construct : Construct)
     → RowEnd rows from to end
@@ -164,7 +151,7 @@ control-row rows from to end n a class construct t p q e s = record {
 }
   where
     written-not : Written ≡ Controlled → constructOf class ≡ Controlled
-    written-not z = true-not-false (ap isWrittenConstruct z)
+    written-not z = true-not-false (sym (ap asksFirst z))
 
     go : (b : Bool) → a && staysWritten class ≡ b → constructOf class ≡ Controlled
     go true v = written-not (rw v at (sym e ∙ s))

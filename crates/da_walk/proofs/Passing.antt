@@ -1,6 +1,6 @@
 -- Statements that need not be walked where the local is written: what `passes_over` answers, and what its callers have of it.
 use mathlib.Core.Path.{_≡_, refl, sym, ap, _∙_}
-use mathlib.Core.Bool.{Bool, true, false, not, _&&_}
+use mathlib.Core.Bool.{true, false, not, _&&_}
 use mathlib.Core.List.{List}
 use Prim.Native.Nat.{ℕ, _+_, _≤_, _<_}
 use borrow.Author.Tests.{not-false}
@@ -12,15 +12,15 @@ use Rattle.kinds.specs.Named.{stmtClass}
 use Rattle.kinds.proofs.Below.{true-not-false}
 use Rattle.da.specs.declared.DaOut.the-variants.{Falls}
 use Rattle.da.specs.declared.DaResult.the-variants.{Ok}
-use Rattle.da.specs.Outcome.{State, written, _▷_}
+use Rattle.da.specs.Outcome.{State, written}
 use Rattle.da.specs.Walk.{Walk, noWalk, walkAt, daStmt}
 use Rattle.da_rows.specs.declared.Context.{Context}
 use Rattle.da_rows.specs.Tables.{untimed}
 use Rattle.da_leaf.specs.declared.Construct.{Construct}
 use Rattle.da_leaf.specs.declared.Construct.the-variants.{Controlled}
-use Rattle.da_leaf.specs.Leaves.{constructOf, staysWritten, LeafRow}
+use Rattle.da_leaf.specs.Leaves.{constructOf, staysWritten}
 use Rattle.da_leaf.proofs.Written.{control-falls}
-use Rattle.da_walk.specs.Constructs.{blockIn, PassedOver, ControlRow, controlledAt, constructAt}
+use Rattle.da_walk.specs.Constructs.{blockIn, PassedOver, ControlRow, controlledAt}
 use Rattle.da_walk.proofs.Dispatch.{inner-none, row-walk, inner-stays}
 use Rattle.da_walk.proofs.Branching.{block-on}
 
