@@ -18,11 +18,11 @@ use Rattle.reads.specs.Mentions.{refers}
 use Rattle.reads.specs.Iffs.{iffQuiet}
 use Rattle.reads.proofs.Trees.{refers-node, quiet-children, quiet-others, quiet-alone, refers-quiet}
 use Rattle.paths.specs.Marks.{full, none}
-use Rattle.paths.specs.Commands.{write, emit, seq}
+use Rattle.paths.specs.Commands.{Command, write, emit, seq, alt}
 use Rattle.paths.specs.Triples.{Triple, at, never}
-use Rattle.paths.specs.Evaluation.{Evaluation, Truth, is-true, is-false, opposite, free, asked, both, either, conditional, writeIf, noEvaluation, evaluationOf, evaluationAt, evaluations}
-use Rattle.paths.specs.Evaluates.{Evaluates}
-use Rattle.paths.proofs.Rules.{rule-skip, rule-write, rule-seq}
+use Rattle.paths.specs.Evaluation.{Evaluation, Truth, is-true, is-false, is-unknown, opposite, free, asked, both, either, conditional, writeIf, noEvaluation, evaluationOf, evaluationAt, evaluations}
+use Rattle.paths.specs.Evaluates.{Meets, Evaluates}
+use Rattle.paths.proofs.Rules.{rule-skip, rule-write, rule-seq, rule-alt}
 use Rattle.paths.proofs.Evaluating.{evaluates-forget, evaluates-free, evaluates-asked, chain, chain-triple, conditional-triple}
 use Rattle.paths.proofs.Built.{calm-row, quiet-row, silent-row, silent-none}
 use Rattle.effect_rules.specs.declared.ExprDa.{ExprDa}
@@ -34,7 +34,7 @@ use Rattle.effect_rules.specs.declared.Form.the-variants.{Inner, LogNot, Operan
 use Rattle.effect_rules.specs.Rules.{unaryForm, binaryForm, callForm, formOf, join, shortCircuit, oneArm, afterCond, writesWhen, effectOf, operandsWrite, selfGuarded, combined, guarded, noEffect, noRowEffect}
 use Rattle.expr_effect.specs.Effect.{exprEffectAt, exprEffects, exprEffectOf, exprDa, unguarded}
 use Rattle.expr_effect.proofs.Operands.{unguarded-none, effect-first}
-use Rattle.expr_effect.specs.Law.{EffectLaw, Meets, WhenLaw, isPlain, factsAt, exprFacts, noFacts, NoneRefer, none-left, and-more, ExprLaw, EffectTold, DaTold}
+use Rattle.expr_effect.specs.Law.{EffectLaw, WhenLaw, isPlain, factsAt, exprFacts, noFacts, NoneRefer, none-left, and-more, ExprLaw, EffectTold, DaTold}
 
 -- what the effect and the writing on an outcome say of an evaluation
 record Sound (o : ExprEffect) (e : Evaluation) : Type 0 where
@@ -91,8 +91,10 @@ flip-effect Reads e l = tt
 flip-meets : (want : Bool) (t : Truth) → Meets want t → Meets (not want) (opposite t)
 flip-meets true is-true q = q
 flip-meets true is-false q = q
+flip-meets true is-unknown q = q
 flip-meets false is-true q = q
 flip-meets false is-false q = q
+flip-meets false is-unknown q = q
 
 -- both operands of a binary operator
 
@@ -105,24 +107,51 @@ join-effect Clean Reads l r k p q = tt
 join-effect Clean Writes l r k p q = evaluates-free (rule-seq (p .value) (q .value))
 join-effect Clean Clean l r k p q = evaluates-free (rule-seq (p .value) (q .value))
 
--- && and ||: `reached` is the truth of the left after which the right is evaluated
+-- && and ||: `want` is the outcome of the left whose opposite alone keeps the right from being evaluated
 
-module _ (reached : Truth) (l r : Evaluation) (k : Evaluates full full r) where
-  short-effect : (d e : ExprDa) (wrote : Bool) → EffectLaw d l → EffectLaw e r → WhenLaw wrote (l .truth reached) → EffectLaw (shortCircuit d e wrote) (asked (chain reached l r))
-  short-effect Writes e wrote p q w = evaluates-asked (chain-triple reached p (p .truth reached) k)
+when-alt : (w : Bool) (c d : Command) → WhenLaw w c → WhenLaw w d → WhenLaw w (alt c d)
+when-alt true c d h k = rule-alt h k
+when-alt false c d h k = tt
+
+module _ (want : Bool) (l r : Evaluation) (k : Evaluates full full r) where
+  short-effect : (d e : ExprDa) (wrote : Bool) → EffectLaw d l → EffectLaw e r → ((t : Truth) → Meets want t → WhenLaw wrote (l .truth t)) → EffectLaw (shortCircuit d e wrote) (asked (chain want l r))
+  short-effect Writes e wrote p q w = evaluates-asked (chain-triple want p (λ t m. p .truth t) k)
   short-effect Reads e wrote p q w = tt
-  short-effect Clean Clean wrote p q w = evaluates-asked (chain-triple reached p (p .truth reached) q)
-  short-effect Clean Writes wrote p q w = evaluates-asked (chain-triple reached p (p .truth reached) (evaluates-forget q))
-  short-effect Clean Reads true p q w = evaluates-asked (chain-triple reached p w (evaluates-forget k))
+  short-effect Clean Clean wrote p q w = evaluates-asked (chain-triple want p (λ t m. p .truth t) q)
+  short-effect Clean Writes wrote p q w = evaluates-asked (chain-triple want p (λ t m. p .truth t) (evaluates-forget q))
+  short-effect Clean Reads true p q w = evaluates-asked (chain-triple want p w (evaluates-forget k))
   short-effect Clean Reads false p q w = tt
 
-  -- both were evaluated: the left wrote, or the right did
-  short-when : (d e : ExprDa) (wrote u v : Bool) (t : Truth) → IsClean (shortCircuit d e wrote) → EffectLaw d l → WhenLaw u (l .truth t) → WhenLaw v (r .truth t) → WhenLaw (u || v) (seq (l .truth t) (r .truth t))
-  short-when d e wrote true v t i p a b = rule-seq a (k .truth t)
-  short-when Clean e wrote false true t i p a b = rule-seq (p .truth t) b
-  short-when Writes e wrote false true t i p a b = absurd i
-  short-when Reads e wrote false true t i p a b = absurd i
-  short-when d e wrote false false t i p a b = tt
+-- both were evaluated: the left wrote, or the right did
+both-when : (u v : Bool) {c d : Command} → Triple none c (at none) never → Triple full d (at full) never → WhenLaw u c → WhenLaw v d → WhenLaw (u || v) (seq c d)
+both-when true v h k a b = rule-seq a k
+both-when false true h k a b = rule-seq h b
+both-when false false h k a b = tt
+
+short-left : (d e : ExprDa) (wrote : Bool) {l : Evaluation} → IsClean (shortCircuit d e wrote) → EffectLaw d l → Evaluates none none l
+short-left Clean e wrote i p = p
+short-left Writes e wrote i p = absurd i
+short-left Reads e wrote i p = absurd i
+
+module _ (u v : Bool) {l r : Evaluation} (p : Evaluates none none l) (k : Evaluates full full r) where
+  pair-when : (s t : Truth) → WhenLaw u (l .truth s) → WhenLaw v (r .truth t) → WhenLaw (u || v) (seq (l .truth s) (r .truth t))
+  pair-when s t a b = both-when u v (p .truth s) (k .truth t) a b
+
+  -- one of them came out unknown, and the other not as what settles
+  unknown-when : (on : Truth) → WhenLaw u (l .truth on) → WhenLaw u (l .truth is-unknown) → WhenLaw v (r .truth on) → WhenLaw v (r .truth is-unknown)
+      → WhenLaw (u || v) (alt (seq (l .truth on) (r .truth is-unknown)) (seq (l .truth is-unknown) (alt (r .truth on) (r .truth is-unknown))))
+  unknown-when on a c b d =
+      when-alt (u || v) _ _ (pair-when on is-unknown a d)
+      (both-when u v (p .truth is-unknown) (rule-alt (k .truth on) (k .truth is-unknown)) c (when-alt v _ _ b d))
+
+  -- the whole does not come out as the opposite of `want`
+  chain-when : (want : Bool) → ((t : Truth) → Meets want t → WhenLaw u (l .truth t)) → ((t : Truth) → Meets want t → WhenLaw v (r .truth t)) → (t : Truth) → Meets want t → WhenLaw (u || v) (chain want l r t)
+  chain-when true a b is-true m = pair-when is-true is-true (a is-true tt) (b is-true tt)
+  chain-when true a b is-false m = absurd m
+  chain-when true a b is-unknown m = unknown-when is-true (a is-true tt) (a is-unknown tt) (b is-true tt) (b is-unknown tt)
+  chain-when false a b is-true m = absurd m
+  chain-when false a b is-false m = pair-when is-false is-false (a is-false tt) (b is-false tt)
+  chain-when false a b is-unknown m = unknown-when is-false (a is-false tt) (a is-unknown tt) (b is-false tt) (b is-unknown tt)
 
 -- a conditional
 
@@ -171,34 +200,30 @@ module _ (n : Bool) (a b c : ExprEffect) (d e f : Evaluation) (p : Sound a d) (q
       (conditional-effect e f (q .calm) (r .calm) d (a .effect) (b .effect) (c .effect) (p .effect) (q .effect) (r .effect))
       (λ want t m i. tt)
 
-  chain-calm : (reached : Truth) → Evaluates full full (asked (chain reached d e))
-  chain-calm reached = evaluates-asked (chain-triple reached (p .calm) (p .calm .truth reached) (q .calm))
+  chain-calm : (want : Bool) → Evaluates full full (asked (chain want d e))
+  chain-calm want = evaluates-asked (chain-triple want (p .calm) (λ t m. p .calm .truth t) (q .calm))
 
   and-sound : Sound (guarded (combined LogAnd n a b c)) (asked (both d e))
   and-sound =
       row-sound LogAnd n a b c (asked (both d e))
-      (chain-calm is-true)
-      (short-effect is-true d e (q .calm) (a .effect) (b .effect) (a .«when_true») (p .effect) (q .effect) (p .when true is-true tt))
+      (chain-calm true)
+      (short-effect true d e (q .calm) (a .effect) (b .effect) (a .«when_true») (p .effect) (q .effect) (p .when true))
       and-when
     where
       and-when : (want : Bool) (t : Truth) → Meets want t → IsClean (effectOf LogAnd n a b c) → WhenLaw (operandsWrite LogAnd want a b) (both d e t)
-      and-when true is-true m i = short-when is-true d e (q .calm) (a .effect) (b .effect) (a .«when_true») (a .«when_true») (b .«when_true») is-true i (p .effect) (p .when true is-true tt) (q .when true is-true tt)
-      and-when true is-false m i = absurd m
-      and-when false is-true m i = tt
-      and-when false is-false m i = tt
+      and-when true t m i = chain-when (a .«when_true») (b .«when_true») (short-left (a .effect) (b .effect) (a .«when_true») i (p .effect)) (q .calm) true (p .when true) (q .when true) t m
+      and-when false t m i = tt
 
   or-sound : Sound (guarded (combined LogOr n a b c)) (asked (either d e))
   or-sound =
       row-sound LogOr n a b c (asked (either d e))
-      (chain-calm is-false)
-      (short-effect is-false d e (q .calm) (a .effect) (b .effect) (a .«when_false») (p .effect) (q .effect) (p .when false is-false tt))
+      (chain-calm false)
+      (short-effect false d e (q .calm) (a .effect) (b .effect) (a .«when_false») (p .effect) (q .effect) (p .when false))
       or-when
     where
       or-when : (want : Bool) (t : Truth) → Meets want t → IsClean (effectOf LogOr n a b c) → WhenLaw (operandsWrite LogOr want a b) (either d e t)
-      or-when true is-true m i = tt
-      or-when true is-false m i = tt
-      or-when false is-true m i = absurd m
-      or-when false is-false m i = short-when is-false d e (q .calm) (a .effect) (b .effect) (a .«when_false») (a .«when_false») (b .«when_false») is-false i (p .effect) (p .when false is-false tt) (q .when false is-false tt)
+      or-when true t m i = tt
+      or-when false t m i = chain-when (a .«when_false») (b .«when_false») (short-left (a .effect) (b .effect) (a .«when_false») i (p .effect)) (q .calm) false (p .when false) (q .when false) t m
 
 writes-sound : (n : Bool) → Sound (guarded (combined CallWrites n noEffect noEffect noEffect)) (free (emit write))
 writes-sound n =

@@ -14,8 +14,8 @@ use Rattle.reads.specs.Iffs.{iffQuiet}
 use Rattle.paths.specs.Marks.{none, full}
 use Rattle.paths.specs.Commands.{PathEvent, read, Ending, falls, Runs}
 use Rattle.paths.specs.Silence.{Silent}
-use Rattle.paths.specs.Evaluation.{Evaluation, Truth, is-true, is-false, noEvaluation, evaluations}
-use Rattle.paths.specs.Evaluates.{Evaluates}
+use Rattle.paths.specs.Evaluation.{Evaluation, Truth, noEvaluation, evaluations}
+use Rattle.paths.specs.Evaluates.{Meets, Evaluates}
 use Rattle.paths.proofs.Evaluating.{evaluates-forget}
 use Rattle.paths.specs.Written.{Written}
 use Rattle.paths.proofs.Meaning.{read-is-written, fall-is-written}
@@ -68,11 +68,9 @@ module _ (x k s lo hi : ℕ) (cs : Forest) (q : iffQuiet x (node k s lo hi cs ni
     when-law : (want : Bool) (c : Truth) → WhenLaw (writesWhen (nth noFacts 0 (exprFacts x row) .effects) want) (evaluated .truth c) → exprWritesWhen x row 0 want ≡ true → Runs (evaluated .truth c) t falls → Written t
     when-law want c h w r = fall-is-written t (subst (λ b. WhenLaw b (evaluated .truth c)) (ap (λ o. writesWhen o want) (facts-effects x row 0) ∙ w) h) r
 
-    pub true-written : exprWritesWhen x row 0 true ≡ true → Runs (evaluated .truth is-true) t falls → Written t
-    true-written = when-law true is-true (law .when true is-true tt)
-
-    pub false-written : exprWritesWhen x row 0 false ≡ true → Runs (evaluated .truth is-false) t falls → Written t
-    false-written = when-law false is-false (law .when false is-false tt)
+    -- once it has come out so, or unknown
+    pub wanted-written : (want : Bool) (c : Truth) → Meets want c → exprWritesWhen x row 0 want ≡ true → Runs (evaluated .truth c) t falls → Written t
+    wanted-written want c m = when-law want c (law .when want c m)
 
   -- no reference: nothing is read, in whatever way the row is evaluated
   module _ (n : refers Skipped x row ≡ false) (t : List PathEvent) (o : Ending) where

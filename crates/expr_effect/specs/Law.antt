@@ -16,8 +16,8 @@ use Rattle.reads.specs.Iffs.{iffQuiet}
 use Rattle.paths.specs.Marks.{full, none}
 use Rattle.paths.specs.Commands.{Command}
 use Rattle.paths.specs.Triples.{Triple, at, never}
-use Rattle.paths.specs.Evaluation.{Evaluation, Truth, is-true, is-false, noEvaluation, evaluations}
-use Rattle.paths.specs.Evaluates.{Evaluates}
+use Rattle.paths.specs.Evaluation.{Evaluation, Truth, noEvaluation, evaluations}
+use Rattle.paths.specs.Evaluates.{Meets, Evaluates}
 use Rattle.paths.specs.Silence.{ReadsNothing}
 use Rattle.effect_rules.specs.declared.ExprDa.{ExprDa}
 use Rattle.effect_rules.specs.declared.ExprDa.the-variants.{Clean, Writes, Reads}
@@ -33,13 +33,6 @@ abbrev pub EffectLaw : ExprDa → Evaluation → Type 0
 EffectLaw Clean e = Evaluates none none e
 EffectLaw Writes e = Evaluates none full e
 EffectLaw Reads e = Unit
-
--- a truth that is not the opposite of the outcome that is wanted
-abbrev pub Meets : Bool → Truth → Type 0
-Meets true is-true = Unit
-Meets true is-false = ⊥
-Meets false is-true = ⊥
-Meets false is-false = Unit
 
 -- "is `name` definitely written by then?", where the answer is yes
 abbrev pub WhenLaw : Bool → Command → Type 0

@@ -18,7 +18,7 @@ use Rattle.reads.proofs.Trees.{refers-node, refers-row}
 use Rattle.paths.specs.Marks.{Mark, full, none, _⊑_}
 use Rattle.paths.specs.Commands.{PathEvent, read, write, choice, Ending, falls, stops, leaves, again, NoJump, Command, skip, emit, seq, alt, Runs, run-stop, run-skip, run-emit, run-emit-stop, run-seq, run-off, run-left, run-right}
 use Rattle.paths.specs.Triples.{at, never, Ends, Triple}
-use Rattle.paths.specs.Evaluation.{Truth, is-true, is-false, choiceOf, Evaluation, free, asked, both, either, inOrder, readIf, writeIf, noEvaluation, evaluationOf, evaluationAt, evaluations}
+use Rattle.paths.specs.Evaluation.{Truth, is-true, is-false, is-unknown, choiceOf, Evaluation, free, asked, both, either, inOrder, readIf, writeIf, noEvaluation, evaluationOf, evaluationAt, evaluations}
 use Rattle.paths.specs.Evaluates.{Evaluates, AllEvaluate, no-more, one-more}
 use Rattle.paths.specs.Silence.{NotRead, Silent, ReadsNothing}
 use Rattle.paths.proofs.Rules.{good-full, good-silent}
@@ -92,7 +92,9 @@ module _ (P : PathEvent → Type 0) (pw : P write) (pc : (n : ℕ) → P (choice
   built-free h = record { value = h; truth = λ t. of-seq h (of-emit (pc (choiceOf t))); store = h }
 
   built-asked : {f : Truth → Command} → ((t : Truth) → Built P (f t)) → EachBuilt P (asked f)
-  built-asked h = record { value = of-alt (h is-true) (h is-false); truth = h; store = of-alt (h is-true) (h is-false) }
+  built-asked h =
+      let any = of-alt (h is-true) (of-alt (h is-false) (h is-unknown)) in
+      record { value = any; truth = h; store = any }
 
   built-read : (b : Bool) → (b ≡ true → P read) → Built P (readIf b)
   built-read true q = of-emit (q refl)
@@ -125,10 +127,12 @@ module _ (P : PathEvent → Type 0) (pw : P write) (pc : (n : ℕ) → P (choice
     built-and : (t : Truth) → Built P (both l r t)
     built-and is-true = search parts
     built-and is-false = search parts
+    built-and is-unknown = search parts
 
     built-or : (t : Truth) → Built P (either l r t)
     built-or is-true = search parts
     built-or is-false = search parts
+    built-or is-unknown = search parts
 
   module _ {es : List Evaluation} (x s : ℕ) (cs : Forest) (hs : AllBuilt P es) where
     abbrev operand : (n : ℕ) → EachBuilt P (nth noEvaluation n es)

@@ -1,12 +1,13 @@
 -- The rules of triples at the forms of specs/Evaluation.
+use mathlib.Core.Bool.{Bool, true, false}
 use mathlib.Core.List.{List}
 use Prim.Native.Nat.{ℕ, zero, suc}
 use Rattle.table.specs.Fold.{nth, tail}
 use Rattle.paths.specs.Marks.{Mark, _⊑_, none, ⊑-refl, none-⊑}
 use Rattle.paths.specs.Commands.{Command}
 use Rattle.paths.specs.Triples.{Triple, at, never}
-use Rattle.paths.specs.Evaluation.{Truth, is-true, is-false, choiceOf, Evaluation, free, asked, both, either, conditional, inOrder, noEvaluation}
-use Rattle.paths.specs.Evaluates.{Evaluates, AllEvaluate, no-more, one-more}
+use Rattle.paths.specs.Evaluation.{Truth, is-true, is-false, is-unknown, choiceOf, Evaluation, free, ofAny, asked, notFalse, notTrue, both, either, conditional, inOrder, noEvaluation}
+use Rattle.paths.specs.Evaluates.{Meets, Evaluates, AllEvaluate, no-more, one-more}
 use Rattle.paths.proofs.Rules.{less, nowhere, weaken, lift, rule-skip, rule-choice, rule-seq, rule-alt}
 
 -- nothing is known at the end
@@ -21,7 +22,10 @@ pub evaluates-free : {a b : Mark} {c : Command} → Triple a c (at b) never → 
 evaluates-free h = record { value = h; truth = λ t. rule-seq h (rule-choice (choiceOf t)); store = h }
 
 pub evaluates-asked : {a b : Mark} {f : Truth → Command} → ((t : Truth) → Triple a (f t) (at b) never) → Evaluates a b (asked f)
-evaluates-asked h = record { value = rule-alt (h is-true) (h is-false); truth = h; store = rule-alt (h is-true) (h is-false) }
+evaluates-asked {a} {b} {f} h = record { value = any; truth = h; store = any }
+  where
+    any : Triple a (ofAny f) (at b) never
+    any = rule-alt (h is-true) (rule-alt (h is-false) (h is-unknown))
 
 truth-of : {a b : Mark} {e : Evaluation} → Evaluates a b e → (t : Truth) → Triple a (e .truth t) (at b) never
 truth-of h = h .truth
@@ -29,20 +33,30 @@ truth-of h = h .truth
 -- a command's triple from those of its parts
 ruleset composed = (rule-seq, rule-alt, truth-of)
 
--- && and ||, by the truth of the left after which the right is evaluated
-abbrev pub chain : Truth → Evaluation → Evaluation → Truth → Command
-chain is-true l r t = both l r t
-chain is-false l r t = either l r t
+-- && and ||: the right starts from what the left leaves where it lets it be evaluated
+module _ {a b c : Mark} {l r : Evaluation} (h : Evaluates a c l) (i : Evaluates b c r) where
+  both-triple : Triple a (l .truth is-true) (at b) never → Triple a (notFalse l) (at b) never → Triple a (l .truth is-unknown) (at b) never → (t : Truth) → Triple a (both l r t) (at c) never
+  both-triple k g u is-true = search composed
+  both-triple k g u is-false = search composed
+  both-triple k g u is-unknown = search composed
 
-pub chain-triple : (reached : Truth) {a b c : Mark} {l r : Evaluation} → Evaluates a c l → Triple a (l .truth reached) (at b) never → Evaluates b c r → (t : Truth) → Triple a (chain reached l r t) (at c) never
-chain-triple is-true h k i is-true = search composed
-chain-triple is-true h k i is-false = search composed
-chain-triple is-false h k i is-true = search composed
-chain-triple is-false h k i is-false = search composed
+  either-triple : Triple a (l .truth is-false) (at b) never → Triple a (notTrue l) (at b) never → Triple a (l .truth is-unknown) (at b) never → (t : Truth) → Triple a (either l r t) (at c) never
+  either-triple k g u is-true = search composed
+  either-triple k g u is-false = search composed
+  either-triple k g u is-unknown = search composed
+
+-- either of them, by the outcome of the left whose opposite alone keeps the right from being evaluated
+abbrev pub chain : Bool → Evaluation → Evaluation → Truth → Command
+chain true l r t = both l r t
+chain false l r t = either l r t
+
+pub chain-triple : (want : Bool) {a b c : Mark} {l r : Evaluation} → Evaluates a c l → ((t : Truth) → Meets want t → Triple a (l .truth t) (at b) never) → Evaluates b c r → (t : Truth) → Triple a (chain want l r t) (at c) never
+chain-triple true h k i = both-triple h i (k is-true tt) (rule-alt (k is-true tt) (k is-unknown tt)) (k is-unknown tt)
+chain-triple false h k i = either-triple h i (k is-false tt) (rule-alt (k is-false tt) (k is-unknown tt)) (k is-unknown tt)
 
 -- the arms keep what the condition leaves
 pub conditional-triple : {a b : Mark} {e l r : Evaluation} → Evaluates a b e → Evaluates b b l → Evaluates b b r → Triple a (conditional e l r) (at b) never
-conditional-triple h i k = search composed
+conditional-triple h i k = let arms = rule-seq (i .value) (k .value) in search composed
 
 -- what is fine from less is fine from more, and keeps it
 pub evaluates-lift : {a b m : Mark} {e : Evaluation} → a ⊑ m → Evaluates a b e → Evaluates m m e

@@ -2,6 +2,10 @@ pub mod Rules
 pub mod Meaning
 pub mod Prefixes
 pub mod Evaluating
+pub mod Within
+pub mod Unknown
+pub mod TwoValued
+pub mod AnyLength
 pub mod Built
 pub mod Listed
 pub mod Strength

@@ -15,7 +15,7 @@ use Rattle.reads.specs.PathRows.{isNamed, begins, count, segments, isLocal}
 use Rattle.reads.specs.Mentions.{inRowOrder, seenBelow, seenAt, seen, some, refers}
 use Rattle.reads.specs.Iffs.{iffHere, every, iffAt, iffQuiet}
 use Rattle.paths.specs.Commands.{PathEvent, read, write, choice, Ending, falls, stops, leaves, again, out-of-loop, out-of-round, Command, emit, exit, seq, star, catch, Runs}
-use Rattle.paths.specs.Evaluation.{Truth, is-true, is-false, Evaluation, noEvaluation, evaluationAt, evaluations}
+use Rattle.paths.specs.Evaluation.{Truth, is-true, is-false, is-unknown, Evaluation, noEvaluation, evaluationAt, evaluations}
 use Rattle.paths.proofs.Prefixes.{prefix}
 use Rattle.paths.proofs.Listed.{Run, IsRun, Each, followed, eachFollowed, rounds, listed, each-map, listed-run, each-expected, loopless, Settled, Among, all-listed}
 
@@ -117,6 +117,10 @@ pub data Extent : Type 0 where
   whole : Extent
   up-to : ℕ → Extent
 
+abbrev pub isWhole : Extent → Bool
+isWhole whole = true
+isWhole (up-to n) = false
+
 abbrev pub shortened : Extent → List Run → List Run
 shortened whole rs = rs
 shortened (up-to n) rs = map (λ r. (take n (r .0), stops)) rs
@@ -147,6 +151,9 @@ isTrue = case (as-truth is-true)
 abbrev pub isFalse : Row → List (List PathEvent) → Case
 isFalse = case (as-truth is-false)
 
+abbrev pub isUnknown : Row → List (List PathEvent) → Case
+isUnknown = case (as-truth is-unknown)
+
 abbrev pub store : Row → List (List PathEvent) → Case
 store = case as-target
 
@@ -171,24 +178,34 @@ truths =
     isFalse (plus W X) ((write ∷ read ∷ choice 0 ∷ []) ∷ []) ∷
     isTrue (minus X) ((read ∷ choice 1 ∷ []) ∷ []) ∷
     isFalse (minus X) ((read ∷ choice 0 ∷ []) ∷ []) ∷
+    isUnknown X ((read ∷ choice 2 ∷ []) ∷ []) ∷
+    isUnknown lit ((choice 2 ∷ []) ∷ []) ∷
+    isUnknown W ((write ∷ choice 2 ∷ []) ∷ []) ∷
+    isUnknown (plus W X) ((write ∷ read ∷ choice 2 ∷ []) ∷ []) ∷
+    isUnknown (minus X) ((read ∷ choice 2 ∷ []) ∷ []) ∷
     []
 
 -- "&& is false after a false left; otherwise, and only then, the right is evaluated and gives the truth"
 abbrev ands : List Case
 ands =
     isTrue (and! Y X) ((choice 1 ∷ read ∷ choice 1 ∷ []) ∷ []) ∷
-    isFalse (and! Y X) ((choice 0 ∷ []) ∷ (choice 1 ∷ read ∷ choice 0 ∷ []) ∷ []) ∷
+    isFalse (and! Y X) ((choice 0 ∷ []) ∷ (choice 1 ∷ read ∷ choice 0 ∷ []) ∷ (choice 2 ∷ read ∷ choice 0 ∷ []) ∷ []) ∷
     isTrue (and! X W) ((read ∷ choice 1 ∷ write ∷ choice 1 ∷ []) ∷ []) ∷
-    isFalse (and! (and! Y W) X) ((choice 0 ∷ []) ∷ (choice 1 ∷ write ∷ choice 0 ∷ []) ∷ (choice 1 ∷ write ∷ choice 1 ∷ read ∷ choice 0 ∷ []) ∷ []) ∷
+    isFalse (and! (and! Y W) X) ((choice 0 ∷ []) ∷ (choice 1 ∷ write ∷ choice 0 ∷ []) ∷ (choice 2 ∷ write ∷ choice 0 ∷ []) ∷ (choice 1 ∷ write ∷ choice 1 ∷ read ∷ choice 0 ∷ []) ∷ (choice 1 ∷ write ∷ choice 2 ∷ read ∷ choice 0 ∷ []) ∷ (choice 2 ∷ write ∷ choice 1 ∷ read ∷ choice 0 ∷ []) ∷ (choice 2 ∷ write ∷ choice 2 ∷ read ∷ choice 0 ∷ []) ∷ []) ∷
+    isUnknown (and! Y X) ((choice 1 ∷ read ∷ choice 2 ∷ []) ∷ (choice 2 ∷ read ∷ choice 1 ∷ []) ∷ (choice 2 ∷ read ∷ choice 2 ∷ []) ∷ []) ∷
+    isUnknown (and! (and! Y W) X) ((choice 1 ∷ write ∷ choice 1 ∷ read ∷ choice 2 ∷ []) ∷ (choice 1 ∷ write ∷ choice 2 ∷ read ∷ choice 1 ∷ []) ∷ (choice 1 ∷ write ∷ choice 2 ∷ read ∷ choice 2 ∷ []) ∷ (choice 2 ∷ write ∷ choice 1 ∷ read ∷ choice 1 ∷ []) ∷ (choice 2 ∷ write ∷ choice 1 ∷ read ∷ choice 2 ∷ []) ∷ (choice 2 ∷ write ∷ choice 2 ∷ read ∷ choice 1 ∷ []) ∷ (choice 2 ∷ write ∷ choice 2 ∷ read ∷ choice 2 ∷ []) ∷ []) ∷
+    value (and! (not! Y) W) ((choice 0 ∷ write ∷ choice 1 ∷ []) ∷ (choice 1 ∷ []) ∷ (choice 0 ∷ write ∷ choice 0 ∷ []) ∷ (choice 2 ∷ write ∷ choice 0 ∷ []) ∷ (choice 0 ∷ write ∷ choice 2 ∷ []) ∷ (choice 2 ∷ write ∷ choice 1 ∷ []) ∷ (choice 2 ∷ write ∷ choice 2 ∷ []) ∷ []) ∷
     []
 
 -- "|| is true after a true left; otherwise, and only then, the right is evaluated and gives the truth"
 abbrev ors : List Case
 ors =
-    isTrue (or! Y X) ((choice 1 ∷ []) ∷ (choice 0 ∷ read ∷ choice 1 ∷ []) ∷ []) ∷
+    isTrue (or! Y X) ((choice 1 ∷ []) ∷ (choice 0 ∷ read ∷ choice 1 ∷ []) ∷ (choice 2 ∷ read ∷ choice 1 ∷ []) ∷ []) ∷
     isFalse (or! Y X) ((choice 0 ∷ read ∷ choice 0 ∷ []) ∷ []) ∷
     isFalse (or! X W) ((read ∷ choice 0 ∷ write ∷ choice 0 ∷ []) ∷ []) ∷
-    isTrue (or! (and! Y W) X) ((choice 1 ∷ write ∷ choice 1 ∷ []) ∷ (choice 0 ∷ read ∷ choice 1 ∷ []) ∷ (choice 1 ∷ write ∷ choice 0 ∷ read ∷ choice 1 ∷ []) ∷ []) ∷
+    isTrue (or! (and! Y W) X) ((choice 1 ∷ write ∷ choice 1 ∷ []) ∷ (choice 0 ∷ read ∷ choice 1 ∷ []) ∷ (choice 1 ∷ write ∷ choice 0 ∷ read ∷ choice 1 ∷ []) ∷ (choice 2 ∷ write ∷ choice 0 ∷ read ∷ choice 1 ∷ []) ∷ (choice 1 ∷ write ∷ choice 2 ∷ read ∷ choice 1 ∷ []) ∷ (choice 2 ∷ write ∷ choice 1 ∷ read ∷ choice 1 ∷ []) ∷ (choice 2 ∷ write ∷ choice 2 ∷ read ∷ choice 1 ∷ []) ∷ []) ∷
+    isUnknown (or! Y X) ((choice 0 ∷ read ∷ choice 2 ∷ []) ∷ (choice 2 ∷ read ∷ choice 0 ∷ []) ∷ (choice 2 ∷ read ∷ choice 2 ∷ []) ∷ []) ∷
+    isUnknown (or! (and! Y W) X) ((choice 0 ∷ read ∷ choice 2 ∷ []) ∷ (choice 1 ∷ write ∷ choice 0 ∷ read ∷ choice 2 ∷ []) ∷ (choice 2 ∷ write ∷ choice 0 ∷ read ∷ choice 2 ∷ []) ∷ (choice 1 ∷ write ∷ choice 2 ∷ read ∷ choice 0 ∷ []) ∷ (choice 1 ∷ write ∷ choice 2 ∷ read ∷ choice 2 ∷ []) ∷ (choice 2 ∷ write ∷ choice 1 ∷ read ∷ choice 0 ∷ []) ∷ (choice 2 ∷ write ∷ choice 1 ∷ read ∷ choice 2 ∷ []) ∷ (choice 2 ∷ write ∷ choice 2 ∷ read ∷ choice 0 ∷ []) ∷ (choice 2 ∷ write ∷ choice 2 ∷ read ∷ choice 2 ∷ []) ∷ []) ∷
     []
 
 -- "`!` flips, paren passes"
@@ -196,32 +213,38 @@ abbrev flips : List Case
 flips =
     isTrue (not! X) ((read ∷ choice 0 ∷ []) ∷ []) ∷
     isFalse (not! X) ((read ∷ choice 1 ∷ []) ∷ []) ∷
-    isTrue (not! (and! Y X)) ((choice 0 ∷ []) ∷ (choice 1 ∷ read ∷ choice 0 ∷ []) ∷ []) ∷
+    isTrue (not! (and! Y X)) ((choice 0 ∷ []) ∷ (choice 1 ∷ read ∷ choice 0 ∷ []) ∷ (choice 2 ∷ read ∷ choice 0 ∷ []) ∷ []) ∷
     isFalse (not! (and! Y X)) ((choice 1 ∷ read ∷ choice 1 ∷ []) ∷ []) ∷
     value (paren X) ((read ∷ []) ∷ []) ∷
     isTrue (paren X) ((read ∷ choice 1 ∷ []) ∷ []) ∷
-    isTrue (paren (or! Y X)) ((choice 1 ∷ []) ∷ (choice 0 ∷ read ∷ choice 1 ∷ []) ∷ []) ∷
+    isTrue (paren (or! Y X)) ((choice 1 ∷ []) ∷ (choice 0 ∷ read ∷ choice 1 ∷ []) ∷ (choice 2 ∷ read ∷ choice 1 ∷ []) ∷ []) ∷
     isFalse (paren (not! X)) ((read ∷ choice 1 ∷ []) ∷ []) ∷
+    isUnknown (not! X) ((read ∷ choice 2 ∷ []) ∷ []) ∷
+    isUnknown (not! (and! Y X)) ((choice 1 ∷ read ∷ choice 2 ∷ []) ∷ (choice 2 ∷ read ∷ choice 1 ∷ []) ∷ (choice 2 ∷ read ∷ choice 2 ∷ []) ∷ []) ∷
+    isUnknown (paren (or! Y X)) ((choice 0 ∷ read ∷ choice 2 ∷ []) ∷ (choice 2 ∷ read ∷ choice 0 ∷ []) ∷ (choice 2 ∷ read ∷ choice 2 ∷ []) ∷ []) ∷
     []
 
 -- "Evaluated operands of &&, || and `!` always have their truth asked", where that of the whole is not
 abbrev operands : List Case
 operands =
-    value (and! Y X) ((choice 1 ∷ read ∷ choice 1 ∷ []) ∷ (choice 0 ∷ []) ∷ (choice 1 ∷ read ∷ choice 0 ∷ []) ∷ []) ∷
-    value (or! Y X) ((choice 1 ∷ []) ∷ (choice 0 ∷ read ∷ choice 1 ∷ []) ∷ (choice 0 ∷ read ∷ choice 0 ∷ []) ∷ []) ∷
-    value (not! X) ((read ∷ choice 0 ∷ []) ∷ (read ∷ choice 1 ∷ []) ∷ []) ∷
-    value (paren (and! Y X)) ((choice 1 ∷ read ∷ choice 1 ∷ []) ∷ (choice 0 ∷ []) ∷ (choice 1 ∷ read ∷ choice 0 ∷ []) ∷ []) ∷
-    value (plus (and! Y X) W) ((choice 1 ∷ read ∷ choice 1 ∷ write ∷ []) ∷ (choice 0 ∷ write ∷ []) ∷ (choice 1 ∷ read ∷ choice 0 ∷ write ∷ []) ∷ []) ∷
+    value (and! Y X) ((choice 1 ∷ read ∷ choice 1 ∷ []) ∷ (choice 0 ∷ []) ∷ (choice 1 ∷ read ∷ choice 0 ∷ []) ∷ (choice 2 ∷ read ∷ choice 0 ∷ []) ∷ (choice 1 ∷ read ∷ choice 2 ∷ []) ∷ (choice 2 ∷ read ∷ choice 1 ∷ []) ∷ (choice 2 ∷ read ∷ choice 2 ∷ []) ∷ []) ∷
+    value (or! Y X) ((choice 1 ∷ []) ∷ (choice 0 ∷ read ∷ choice 1 ∷ []) ∷ (choice 2 ∷ read ∷ choice 1 ∷ []) ∷ (choice 0 ∷ read ∷ choice 0 ∷ []) ∷ (choice 0 ∷ read ∷ choice 2 ∷ []) ∷ (choice 2 ∷ read ∷ choice 0 ∷ []) ∷ (choice 2 ∷ read ∷ choice 2 ∷ []) ∷ []) ∷
+    value (not! X) ((read ∷ choice 0 ∷ []) ∷ (read ∷ choice 1 ∷ []) ∷ (read ∷ choice 2 ∷ []) ∷ []) ∷
+    value (paren (and! Y X)) ((choice 1 ∷ read ∷ choice 1 ∷ []) ∷ (choice 0 ∷ []) ∷ (choice 1 ∷ read ∷ choice 0 ∷ []) ∷ (choice 2 ∷ read ∷ choice 0 ∷ []) ∷ (choice 1 ∷ read ∷ choice 2 ∷ []) ∷ (choice 2 ∷ read ∷ choice 1 ∷ []) ∷ (choice 2 ∷ read ∷ choice 2 ∷ []) ∷ []) ∷
+    value (plus (and! Y X) W) ((choice 1 ∷ read ∷ choice 1 ∷ write ∷ []) ∷ (choice 0 ∷ write ∷ []) ∷ (choice 1 ∷ read ∷ choice 0 ∷ write ∷ []) ∷ (choice 2 ∷ read ∷ choice 0 ∷ write ∷ []) ∷ (choice 1 ∷ read ∷ choice 2 ∷ write ∷ []) ∷ (choice 2 ∷ read ∷ choice 1 ∷ write ∷ []) ∷ (choice 2 ∷ read ∷ choice 2 ∷ write ∷ []) ∷ []) ∷
     []
 
 -- "A conditional expression evaluates its condition and one arm"
 abbrev conditionals : List Case
 conditionals =
-    value (ternary Y X W) ((choice 1 ∷ read ∷ []) ∷ (choice 0 ∷ write ∷ []) ∷ []) ∷
-    isTrue (ternary Y X W) ((choice 1 ∷ read ∷ choice 1 ∷ []) ∷ (choice 0 ∷ write ∷ choice 1 ∷ []) ∷ []) ∷
-    isFalse (ternary Y X W) ((choice 1 ∷ read ∷ choice 0 ∷ []) ∷ (choice 0 ∷ write ∷ choice 0 ∷ []) ∷ []) ∷
-    value (ternary X Y lit) ((read ∷ choice 1 ∷ []) ∷ (read ∷ choice 0 ∷ []) ∷ []) ∷
-    value (ternary (and! Y X) lit W) ((choice 1 ∷ read ∷ choice 1 ∷ []) ∷ (choice 0 ∷ write ∷ []) ∷ (choice 1 ∷ read ∷ choice 0 ∷ write ∷ []) ∷ []) ∷
+    value (ternary Y X W) ((choice 1 ∷ read ∷ []) ∷ (choice 0 ∷ write ∷ []) ∷ (choice 2 ∷ read ∷ write ∷ []) ∷ []) ∷
+    isTrue (ternary Y X W) ((choice 1 ∷ read ∷ choice 1 ∷ []) ∷ (choice 0 ∷ write ∷ choice 1 ∷ []) ∷ (choice 2 ∷ read ∷ write ∷ choice 1 ∷ []) ∷ []) ∷
+    isFalse (ternary Y X W) ((choice 1 ∷ read ∷ choice 0 ∷ []) ∷ (choice 0 ∷ write ∷ choice 0 ∷ []) ∷ (choice 2 ∷ read ∷ write ∷ choice 0 ∷ []) ∷ []) ∷
+    value (ternary X Y lit) ((read ∷ choice 1 ∷ []) ∷ (read ∷ choice 0 ∷ []) ∷ (read ∷ choice 2 ∷ []) ∷ []) ∷
+    value (ternary (and! Y X) lit W) ((choice 1 ∷ read ∷ choice 1 ∷ []) ∷ (choice 0 ∷ write ∷ []) ∷ (choice 1 ∷ read ∷ choice 0 ∷ write ∷ []) ∷ (choice 2 ∷ read ∷ choice 0 ∷ write ∷ []) ∷ (choice 1 ∷ read ∷ choice 2 ∷ write ∷ []) ∷ (choice 2 ∷ read ∷ choice 1 ∷ write ∷ []) ∷ (choice 2 ∷ read ∷ choice 2 ∷ write ∷ []) ∷ []) ∷
+    isUnknown (ternary Y X W) ((choice 1 ∷ read ∷ choice 2 ∷ []) ∷ (choice 0 ∷ write ∷ choice 2 ∷ []) ∷ (choice 2 ∷ read ∷ write ∷ choice 2 ∷ []) ∷ []) ∷
+    value (ternary Y W X) ((choice 1 ∷ write ∷ []) ∷ (choice 0 ∷ read ∷ []) ∷ (choice 2 ∷ write ∷ read ∷ []) ∷ []) ∷
+    value (ternary (or! Y W) X Y) ((choice 1 ∷ read ∷ []) ∷ (choice 0 ∷ write ∷ choice 1 ∷ read ∷ []) ∷ (choice 2 ∷ write ∷ choice 1 ∷ read ∷ []) ∷ (choice 0 ∷ write ∷ choice 0 ∷ []) ∷ (choice 0 ∷ write ∷ choice 2 ∷ read ∷ []) ∷ (choice 2 ∷ write ∷ choice 0 ∷ read ∷ []) ∷ (choice 2 ∷ write ∷ choice 2 ∷ read ∷ []) ∷ []) ∷
     []
 
 -- "A call with side 1 writes the whole local; everything else evaluates its children"; "A call path beginning with the local
@@ -231,6 +254,7 @@ writers =
     value (callRow 1 (w ∷ []) (X ∷ opaque ∷ [])) ((write ∷ []) ∷ []) ∷
     value (callRow 1 (x ∷ []) (X ∷ [])) ((write ∷ []) ∷ []) ∷
     isTrue (callRow 1 (x ∷ y ∷ []) (X ∷ [])) ((write ∷ choice 1 ∷ []) ∷ []) ∷
+    isUnknown (callRow 1 (x ∷ []) (X ∷ [])) ((write ∷ choice 2 ∷ []) ∷ []) ∷
     []
 
 -- sides 0, 2 and 3: "what a called function with side 2 or 3 reads inside itself ... is no read of the path"; "the shape of a
@@ -244,6 +268,7 @@ calls s =
     value (callRow s (y ∷ x ∷ []) []) ([] ∷ []) ∷
     isTrue (callRow s [] (X ∷ [])) ((read ∷ choice 1 ∷ []) ∷ []) ∷
     isFalse (callRow s [] (X ∷ [])) ((read ∷ choice 0 ∷ []) ∷ []) ∷
+    isUnknown (callRow s [] (X ∷ [])) ((read ∷ choice 2 ∷ []) ∷ []) ∷
     []
 
 -- "An ident whose first segment is the local reads; so does opaque"
@@ -256,6 +281,7 @@ idents =
     value opaque ((read ∷ []) ∷ []) ∷
     isTrue opaque ((read ∷ choice 1 ∷ []) ∷ []) ∷
     isFalse opaque ((read ∷ choice 0 ∷ []) ∷ []) ∷
+    isUnknown opaque ((read ∷ choice 2 ∷ []) ∷ []) ∷
     []
 
 -- "everything else evaluates its children in row order"
@@ -272,6 +298,7 @@ ordered word =
     value (row word 0 (W ∷ X ∷ Y ∷ [])) ((write ∷ read ∷ []) ∷ []) ∷
     isTrue (row word 0 (X ∷ opaque ∷ W ∷ [])) ((read ∷ read ∷ write ∷ choice 1 ∷ []) ∷ []) ∷
     isFalse (row word 0 (X ∷ opaque ∷ W ∷ [])) ((read ∷ read ∷ write ∷ choice 0 ∷ []) ∷ []) ∷
+    isUnknown (row word 0 (X ∷ opaque ∷ W ∷ [])) ((read ∷ read ∷ write ∷ choice 2 ∷ []) ∷ []) ∷
     []
 
 -- "Cast type names ... don't" read, and are no rows; the size is evaluated
@@ -318,8 +345,9 @@ abbrev cutShort : List Case
 cutShort =
     cut 0 as-value X ([] ∷ []) ∷
     cut 1 as-value (plus X W) ((read ∷ []) ∷ []) ∷
-    cut 2 (as-truth is-false) (and! Y X) ((choice 0 ∷ []) ∷ (choice 1 ∷ read ∷ []) ∷ []) ∷
+    cut 2 (as-truth is-false) (and! Y X) ((choice 0 ∷ []) ∷ (choice 1 ∷ read ∷ []) ∷ (choice 2 ∷ read ∷ []) ∷ []) ∷
     cut 1 as-target (row "lpart" 0 (lident (x ∷ []) ∷ X ∷ W ∷ [])) ((read ∷ []) ∷ []) ∷
+    cut 1 (as-truth is-unknown) (or! Y X) ((choice 0 ∷ []) ∷ (choice 2 ∷ []) ∷ (choice 2 ∷ []) ∷ []) ∷
     []
 
 abbrev orderedKinds : List String

@@ -1,5 +1,5 @@
--- How an expression is evaluated: document 01, "How a path runs", with the clauses of IEEE 1800 that fix it in brackets.
--- Definitions only. Nothing here is written from the Rust.
+-- How an expression is evaluated: document 01, "How a path runs", and document 02, Paper 2, with the clauses of IEEE 1800 that fix
+-- it in brackets. Definitions only. Nothing here is written from the Rust.
 use mathlib.Core.List.{List, [], _∷_}
 use mathlib.Core.Bool.{Bool, true, false, cond}
 use Prim.Native.Nat.{ℕ}
@@ -12,19 +12,22 @@ use Rattle.kinds.specs.Named.{exprClass}
 use Rattle.reads.specs.PathRows.{begins, isLocal}
 use Rattle.paths.specs.Commands.{read, write, choice, Command, skip, emit, seq, alt}
 
--- what the truth of a condition comes out as, on a path
+-- what the truth of a condition comes out as, on a path: "From here a condition may be unknown" (document 02, Paper 2; 11.4.7:
+-- a one-bit result is x where the truth is ambiguous)
 pub data Truth : Type 0 where
-  is-true is-false : Truth
+  is-true is-false is-unknown : Truth
 
--- the choice that a truth is: "0 false, 1 true" (document 02, Paper 6)
+-- the choice that a truth is: "0 false, 1 true, 2 unknown" (document 02, Paper 6)
 abbrev pub choiceOf : Truth → ℕ
 choiceOf is-false = 0
 choiceOf is-true = 1
+choiceOf is-unknown = 2
 
--- "`!` flips" (11.4.7)
+-- "`!` flips", and "keeps it unknown" (11.4.7)
 abbrev pub opposite : Truth → Truth
 opposite is-true = is-false
 opposite is-false = is-true
+opposite is-unknown = is-unknown
 
 -- the ways in which a row may be evaluated
 pub record Evaluation : Type 0 where
@@ -35,28 +38,47 @@ pub record Evaluation : Type 0 where
   -- as the target of an assignment: its selects, then the write
   pub store : Command
 
--- "is evaluated and then is freely true or false" (12.4: true where the value is nonzero)
+-- "is evaluated and then is freely true or false", or unknown (12.4: true where the value is known and nonzero)
 abbrev pub free : Command → Evaluation
 free c = record { value = c; truth = λ t. seq c (emit (choice (choiceOf t))); store = c }
+
+-- whatever truth it comes out as
+abbrev pub ofAny : (Truth → Command) → Command
+ofAny f = alt (f is-true) (alt (f is-false) (f is-unknown))
 
 -- &&, || and `!`: the truth comes from their operands, "Evaluated operands of &&, || and `!` always have their truth asked"
 -- (11.4.7)
 abbrev pub asked : (Truth → Command) → Evaluation
-asked f = record { value = alt (f is-true) (f is-false); truth = f; store = alt (f is-true) (f is-false) }
+asked f = record { value = ofAny f; truth = f; store = ofAny f }
 
--- "&& is false after a false left; otherwise, and only then, the right is evaluated and gives the truth" (11.3.5, 11.4.7)
+-- "&& goes on to its right unless the left is false"
+abbrev pub notFalse : Evaluation → Command
+notFalse e = alt (e .truth is-true) (e .truth is-unknown)
+
+-- "|| unless the left is true"
+abbrev pub notTrue : Evaluation → Command
+notTrue e = alt (e .truth is-false) (e .truth is-unknown)
+
+-- "&& is false after a false left"; after a true one "the right is evaluated and gives the truth"; "After an unknown left, && is
+-- false if the right is, ... unknown otherwise" (11.3.5, 11.4.7)
 abbrev pub both : Evaluation → Evaluation → Truth → Command
 both l r is-true = seq (l .truth is-true) (r .truth is-true)
-both l r is-false = alt (l .truth is-false) (seq (l .truth is-true) (r .truth is-false))
+both l r is-false = alt (l .truth is-false) (seq (notFalse l) (r .truth is-false))
+both l r is-unknown = alt (seq (l .truth is-true) (r .truth is-unknown)) (seq (l .truth is-unknown) (notFalse r))
 
--- "|| is true after a true left; otherwise, and only then, the right is evaluated and gives the truth" (11.3.5, 11.4.7)
+-- "|| is true after a true left"; after a false one "the right is evaluated and gives the truth"; "After an unknown left, ... || is
+-- true if the right is, ... unknown otherwise" (11.3.5, 11.4.7)
 abbrev pub either : Evaluation → Evaluation → Truth → Command
-either l r is-true = alt (l .truth is-true) (seq (l .truth is-false) (r .truth is-true))
+either l r is-true = alt (l .truth is-true) (seq (notTrue l) (r .truth is-true))
 either l r is-false = seq (l .truth is-false) (r .truth is-false)
+either l r is-unknown = alt (seq (l .truth is-false) (r .truth is-unknown)) (seq (l .truth is-unknown) (notTrue r))
 
--- "A conditional expression evaluates its condition and one arm" (11.4.11)
+-- "A conditional expression evaluates its condition and one arm"; after an unknown condition it "evaluates both arms", here in
+-- row order (11.4.11)
 abbrev pub conditional : Evaluation → Evaluation → Evaluation → Command
-conditional c a b = alt (seq (c .truth is-true) (a .value)) (seq (c .truth is-false) (b .value))
+conditional c a b =
+    alt (seq (c .truth is-true) (a .value))
+    (alt (seq (c .truth is-false) (b .value)) (seq (c .truth is-unknown) (seq (a .value) (b .value))))
 
 -- "everything else evaluates its children in row order" (11.3.5: all operands are evaluated; the order is left open)
 abbrev pub inOrder : List Evaluation → Command

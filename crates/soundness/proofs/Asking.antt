@@ -6,14 +6,14 @@ use Rattle.table.specs.Fold.{Pairwise, no-pair, pair}
 use Rattle.kinds.proofs.Below.{true-not-false}
 use Rattle.paths.specs.Marks.{Mark, full, ⊑-refl, none-⊑}
 use Rattle.paths.specs.Triples.{Triple, at, never}
-use Rattle.paths.specs.Evaluation.{Evaluation, Truth, is-false}
-use Rattle.paths.specs.Evaluates.{Evaluates, AllEvaluate, no-more, one-more}
-use Rattle.paths.proofs.Rules.{less, nowhere, weaken}
+use Rattle.paths.specs.Evaluation.{Evaluation, Truth, is-false, is-unknown}
+use Rattle.paths.specs.Evaluates.{Meets, Evaluates, AllEvaluate, no-more, one-more}
+use Rattle.paths.proofs.Rules.{less, nowhere, weaken, rule-alt}
 use Rattle.paths.proofs.Evaluating.{evaluates-lift, evaluates-from}
 use Rattle.effect_rules.specs.declared.ExprDa.{ExprDa}
 use Rattle.effect_rules.specs.declared.ExprDa.the-variants.{Clean, Writes, Reads}
 use Rattle.effect_rules.specs.Rules.{writesWhen}
-use Rattle.expr_effect.specs.Law.{EffectLaw, Meets, WhenLaw, ExprFacts, NoneRefer, none-left, and-more, ExprLaw}
+use Rattle.expr_effect.specs.Law.{EffectLaw, WhenLaw, ExprFacts, NoneRefer, none-left, and-more, ExprLaw}
 use Rattle.stmt_paths.specs.Execution.{unmet}
 use Rattle.da.specs.declared.DaGiveUp.{DaGiveUp}
 use Rattle.da.specs.declared.DaResult.{DaResult}
@@ -62,7 +62,7 @@ pub record After (f : ExprFacts) (a : State) (e : Evaluation) : Type 0 where
 
 -- once it has not come out true
 pub once-unmet : {f : ExprFacts} {a : State} {e : Evaluation} → After f a e → Triple (known a) (unmet e) (at (known (once f false (gains (exprOutWrites f) a)))) never
-once-unmet h = h .once-so false is-false tt
+once-unmet h = rule-alt (h .once-so false is-false tt) (h .once-so false is-unknown tt)
 
 module _ {f : ExprFacts} {e : Evaluation} (l : ExprLaw f e) (a : State) where
   pub asked-keeps : NotRead (f .effects .effect) a → Evaluates (known a) (known a) e

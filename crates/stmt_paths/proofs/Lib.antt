@@ -1,4 +1,5 @@
 pub mod Conditions
+pub mod AnyLength
 pub mod PremiseTest
 pub mod Numbering
 pub mod Strength

@@ -2,7 +2,7 @@
 -- as well, so each sentence of document 01, "How a path runs", on statements has small rows here with the complete list of their
 -- runs, up to a number of rounds, and each premise has rows that meet it and rows that do not.
 use mathlib.Core.Path.{_≡_, refl, ap}
-use mathlib.Core.Bool.{Bool, true, false}
+use mathlib.Core.Bool.{Bool, true, false, _&&_}
 use mathlib.Core.List.{List, [], _∷_, _++_, map}
 use Prim.Native.Nat.{ℕ, suc}
 use Prim.Native.String.{String}
@@ -17,7 +17,7 @@ use Rattle.reads.specs.Mentions.{inRowOrder, seenBelow, seenAt, seen, some, ref
 use Rattle.paths.specs.Commands.{PathEvent, read, write, outside, choice, falls, stops, leaves, again, Command}
 use Rattle.paths.specs.Evaluation.{evaluationAt}
 use Rattle.paths.proofs.Listed.{Run, IsRun, Each, followed, eachFollowed, rounds, listed, each-imply, each-expected, loopless}
-use Rattle.paths.proofs.Strength.{Row, row, x, y, w, pathOf, lident, X, Y, W, lit, opaque, absent, and!, plus, event, ident, Extent, whole, up-to, shortened, must-list, OnlyBy, only-by}
+use Rattle.paths.proofs.Strength.{Row, row, x, y, w, pathOf, lident, X, Y, W, lit, opaque, absent, not!, and!, plus, event, ident, Extent, whole, up-to, isWhole, shortened, must-list, OnlyBy, only-by}
 use Rattle.stmt_paths.specs.Execution.{heldAt, executionAt, executed, IsPath}
 use Rattle.stmt_paths.specs.Premises.{placeOf, placedBelow, placedAt, placedTogether, placedRows, refersAt, plainAt, rowHolds, FirstFailing, nowhere, at-row, firstFalse, firstFailing, rowOf, RowPremises, Premises}
 use Rattle.stmt_paths.proofs.PremiseTest.{all-hold, fails-at}
@@ -188,7 +188,7 @@ targets =
     straight (assign (bitOf toX Y) lit) ([] ∷ []) ∷
     straight (assign (bitOf toX X) lit) ((read ∷ []) ∷ []) ∷
     straight (assign (row "lconcat" 0 (toX ∷ toY ∷ [])) W) ((write ∷ []) ∷ []) ∷
-    straight (assign toX (and! Y X)) ((choice 1 ∷ read ∷ choice 1 ∷ write ∷ []) ∷ (choice 0 ∷ write ∷ []) ∷ (choice 1 ∷ read ∷ choice 0 ∷ write ∷ []) ∷ []) ∷
+    straight (assign toX (and! Y X)) ((choice 1 ∷ read ∷ choice 1 ∷ write ∷ []) ∷ (choice 0 ∷ write ∷ []) ∷ (choice 1 ∷ read ∷ choice 0 ∷ write ∷ []) ∷ (choice 2 ∷ read ∷ choice 0 ∷ write ∷ []) ∷ (choice 1 ∷ read ∷ choice 2 ∷ write ∷ []) ∷ (choice 2 ∷ read ∷ choice 1 ∷ write ∷ []) ∷ (choice 2 ∷ read ∷ choice 2 ∷ write ∷ []) ∷ []) ∷
     []
 
 -- "Nonblocking: right side only"
@@ -202,9 +202,9 @@ nonblockings =
 -- "A condition ... is evaluated and then is freely true or false"
 abbrev ifs : List Case
 ifs =
-    straight (ifElse X writes reads) ((read ∷ choice 1 ∷ write ∷ []) ∷ (read ∷ choice 0 ∷ read ∷ []) ∷ []) ∷
-    straight (ifElse Y writes absent) ((choice 1 ∷ write ∷ []) ∷ (choice 0 ∷ []) ∷ []) ∷
-    straight (ifElse (and! Y W) null reads) ((choice 1 ∷ write ∷ choice 1 ∷ []) ∷ (choice 0 ∷ read ∷ []) ∷ (choice 1 ∷ write ∷ choice 0 ∷ read ∷ []) ∷ []) ∷
+    straight (ifElse X writes reads) ((read ∷ choice 1 ∷ write ∷ []) ∷ (read ∷ choice 0 ∷ read ∷ []) ∷ (read ∷ choice 2 ∷ read ∷ []) ∷ []) ∷
+    straight (ifElse Y writes absent) ((choice 1 ∷ write ∷ []) ∷ (choice 0 ∷ []) ∷ (choice 2 ∷ []) ∷ []) ∷
+    straight (ifElse (and! Y W) null reads) ((choice 1 ∷ write ∷ choice 1 ∷ []) ∷ (choice 0 ∷ read ∷ []) ∷ (choice 1 ∷ write ∷ choice 0 ∷ read ∷ []) ∷ (choice 2 ∷ write ∷ choice 0 ∷ read ∷ []) ∷ (choice 1 ∷ write ∷ choice 2 ∷ read ∷ []) ∷ (choice 2 ∷ write ∷ choice 1 ∷ read ∷ []) ∷ (choice 2 ∷ write ∷ choice 2 ∷ read ∷ []) ∷ []) ∷
     []
 
 -- "Return evaluates its value and ends the path"
@@ -212,7 +212,7 @@ abbrev endings : List Case
 endings =
     rounds-to 0 (returns absent) (([], stops) ∷ []) ∷
     rounds-to 0 (block (returns X ∷ writes ∷ [])) ((read ∷ [], stops) ∷ []) ∷
-    rounds-to 0 (block (ifElse Y (returns absent) absent ∷ writes ∷ [])) ((choice 1 ∷ [], stops) ∷ (choice 0 ∷ write ∷ [], falls) ∷ []) ∷
+    rounds-to 0 (block (ifElse Y (returns absent) absent ∷ writes ∷ [])) ((choice 1 ∷ [], stops) ∷ (choice 0 ∷ write ∷ [], falls) ∷ (choice 2 ∷ write ∷ [], falls) ∷ []) ∷
     []
 
 -- "Case: scrutinee, then labels in row order through the chosen arm's (all of them for a default or no arm), then that arm; no arm
@@ -221,76 +221,42 @@ endings =
 abbrev arms : List Case
 arms =
     straight (caseOf X (arm (W ∷ []) reads ∷ arm (X ∷ Y ∷ []) writes ∷ []))
-    ((read ∷ choice 0 ∷ write ∷ read ∷ []) ∷
-    (read ∷ choice 1 ∷ write ∷ read ∷ write ∷ []) ∷
-    (read ∷ choice 2 ∷ write ∷ read ∷ []) ∷
-    []) ∷
+    ((read ∷ choice 0 ∷ write ∷ read ∷ []) ∷ (read ∷ choice 1 ∷ write ∷ read ∷ write ∷ []) ∷ (read ∷ choice 2 ∷ write ∷ read ∷ []) ∷ []) ∷
     rounds-to 0 (caseOf Y (arm (W ∷ []) reads ∷ default writes ∷ arm (X ∷ []) null ∷ []))
-    ((choice 0 ∷ write ∷ read ∷ [], falls) ∷
-    (choice 1 ∷ write ∷ read ∷ write ∷ [], falls) ∷
-    (choice 2 ∷ write ∷ read ∷ [], falls) ∷
-    ([], stops) ∷
-    []) ∷
+    ((choice 0 ∷ write ∷ read ∷ [], falls) ∷ (choice 1 ∷ write ∷ read ∷ write ∷ [], falls) ∷ (choice 2 ∷ write ∷ read ∷ [], falls) ∷ ([], stops) ∷ []) ∷
     rounds-to 0 (caseOf Y (default reads ∷ arm (X ∷ W ∷ []) null ∷ default writes ∷ []))
-    ((choice 0 ∷ read ∷ write ∷ read ∷ [], falls) ∷
-    (choice 1 ∷ read ∷ write ∷ [], falls) ∷
-    (choice 2 ∷ read ∷ write ∷ write ∷ [], falls) ∷
-    ([], stops) ∷
-    []) ∷
+    ((choice 0 ∷ read ∷ write ∷ read ∷ [], falls) ∷ (choice 1 ∷ read ∷ write ∷ [], falls) ∷ (choice 2 ∷ read ∷ write ∷ write ∷ [], falls) ∷ ([], stops) ∷ []) ∷
     rounds-to 0 (caseOf W (default reads ∷ [])) ((write ∷ choice 0 ∷ read ∷ [], falls) ∷ (write ∷ [], stops) ∷ []) ∷
     straight (caseOf X []) ((read ∷ choice 0 ∷ []) ∷ []) ∷
     rounds-to 0 (block (caseOf Y (arm (lit ∷ []) (returns X) ∷ []) ∷ writes ∷ []))
-    ((choice 0 ∷ read ∷ [], stops) ∷
-    (choice 1 ∷ write ∷ [], falls) ∷
-    []) ∷
+    ((choice 0 ∷ read ∷ [], stops) ∷ (choice 1 ∷ write ∷ [], falls) ∷ []) ∷
+    rounds-to 0 (caseOf (not! Y) (arm (not! Y ∷ []) writes ∷ [])) ((choice 0 ∷ choice 0 ∷ choice 0 ∷ write ∷ [], falls) ∷ (choice 0 ∷ choice 0 ∷ choice 1 ∷ write ∷ [], falls) ∷ (choice 0 ∷ choice 0 ∷ choice 2 ∷ write ∷ [], falls) ∷ (choice 0 ∷ choice 1 ∷ choice 0 ∷ [], falls) ∷ (choice 0 ∷ choice 1 ∷ choice 1 ∷ [], falls) ∷ (choice 0 ∷ choice 1 ∷ choice 2 ∷ [], falls) ∷ (choice 1 ∷ choice 0 ∷ choice 0 ∷ write ∷ [], falls) ∷ (choice 1 ∷ choice 0 ∷ choice 1 ∷ write ∷ [], falls) ∷ (choice 1 ∷ choice 0 ∷ choice 2 ∷ write ∷ [], falls) ∷ (choice 1 ∷ choice 1 ∷ choice 0 ∷ [], falls) ∷ (choice 1 ∷ choice 1 ∷ choice 1 ∷ [], falls) ∷ (choice 1 ∷ choice 1 ∷ choice 2 ∷ [], falls) ∷ (choice 2 ∷ choice 0 ∷ choice 0 ∷ write ∷ [], falls) ∷ (choice 2 ∷ choice 0 ∷ choice 1 ∷ write ∷ [], falls) ∷ (choice 2 ∷ choice 0 ∷ choice 2 ∷ write ∷ [], falls) ∷ (choice 2 ∷ choice 1 ∷ choice 0 ∷ [], falls) ∷ (choice 2 ∷ choice 1 ∷ choice 1 ∷ [], falls) ∷ (choice 2 ∷ choice 1 ∷ choice 2 ∷ [], falls) ∷ []) ∷
     []
 
 -- "For: init, then condition, body, step in turn"; "Loops run any number of rounds, at least one with side 1"
 abbrev fors : List Case
 fors =
     rounds-to 2 (for 0 reads X reads writes)
-    (fall
-    ((read ∷ read ∷ choice 0 ∷ []) ∷
-    (read ∷ read ∷ choice 1 ∷ write ∷ read ∷ read ∷ choice 0 ∷ []) ∷
-    (read ∷ read ∷ choice 1 ∷ write ∷ read ∷ read ∷ choice 1 ∷ write ∷ read ∷ read ∷ choice 0 ∷ []) ∷
-    [])) ∷
-    rounds-to 1 (for 0 writes Y writes reads) (fall ((write ∷ choice 0 ∷ []) ∷ (write ∷ choice 1 ∷ read ∷ write ∷ choice 0 ∷ []) ∷ [])) ∷
+    ((read ∷ read ∷ choice 0 ∷ [], falls) ∷ (read ∷ read ∷ choice 2 ∷ [], falls) ∷ (read ∷ read ∷ choice 1 ∷ write ∷ read ∷ read ∷ choice 0 ∷ [], falls) ∷ (read ∷ read ∷ choice 1 ∷ write ∷ read ∷ read ∷ choice 2 ∷ [], falls) ∷ (read ∷ read ∷ choice 1 ∷ write ∷ read ∷ read ∷ choice 1 ∷ write ∷ read ∷ read ∷ choice 0 ∷ [], falls) ∷ (read ∷ read ∷ choice 1 ∷ write ∷ read ∷ read ∷ choice 1 ∷ write ∷ read ∷ read ∷ choice 2 ∷ [], falls) ∷ []) ∷
+    rounds-to 1 (for 0 writes Y writes reads) ((write ∷ choice 0 ∷ [], falls) ∷ (write ∷ choice 2 ∷ [], falls) ∷ (write ∷ choice 1 ∷ read ∷ write ∷ choice 0 ∷ [], falls) ∷ (write ∷ choice 1 ∷ read ∷ write ∷ choice 2 ∷ [], falls) ∷ []) ∷
     rounds-to 1 (for 1 writes Y writes reads)
-    (fall
-    ((write ∷ choice 1 ∷ read ∷ write ∷ choice 0 ∷ []) ∷
-    (write ∷ choice 1 ∷ read ∷ write ∷ choice 1 ∷ read ∷ write ∷ choice 0 ∷ []) ∷
-    [])) ∷
+    ((write ∷ choice 1 ∷ read ∷ write ∷ choice 0 ∷ [], falls) ∷ (write ∷ choice 1 ∷ read ∷ write ∷ choice 2 ∷ [], falls) ∷ (write ∷ choice 1 ∷ read ∷ write ∷ choice 1 ∷ read ∷ write ∷ choice 0 ∷ [], falls) ∷ (write ∷ choice 1 ∷ read ∷ write ∷ choice 1 ∷ read ∷ write ∷ choice 2 ∷ [], falls) ∷ []) ∷
     []
 
 -- "while asks its condition before each round, repeat its count once"; of a repeat 1 is chosen "before a round", 0 "to run no more"
 abbrev loops : List Case
 loops =
     rounds-to 2 (while 0 X writes)
-    (fall
-    ((read ∷ choice 0 ∷ []) ∷
-    (read ∷ choice 1 ∷ write ∷ read ∷ choice 0 ∷ []) ∷
-    (read ∷ choice 1 ∷ write ∷ read ∷ choice 1 ∷ write ∷ read ∷ choice 0 ∷ []) ∷
-    [])) ∷
+    ((read ∷ choice 0 ∷ [], falls) ∷ (read ∷ choice 2 ∷ [], falls) ∷ (read ∷ choice 1 ∷ write ∷ read ∷ choice 0 ∷ [], falls) ∷ (read ∷ choice 1 ∷ write ∷ read ∷ choice 2 ∷ [], falls) ∷ (read ∷ choice 1 ∷ write ∷ read ∷ choice 1 ∷ write ∷ read ∷ choice 0 ∷ [], falls) ∷ (read ∷ choice 1 ∷ write ∷ read ∷ choice 1 ∷ write ∷ read ∷ choice 2 ∷ [], falls) ∷ []) ∷
     rounds-to 1 (while 1 X writes)
-    (fall
-    ((read ∷ choice 1 ∷ write ∷ read ∷ choice 0 ∷ []) ∷
-    (read ∷ choice 1 ∷ write ∷ read ∷ choice 1 ∷ write ∷ read ∷ choice 0 ∷ []) ∷
-    [])) ∷
+    ((read ∷ choice 1 ∷ write ∷ read ∷ choice 0 ∷ [], falls) ∷ (read ∷ choice 1 ∷ write ∷ read ∷ choice 2 ∷ [], falls) ∷ (read ∷ choice 1 ∷ write ∷ read ∷ choice 1 ∷ write ∷ read ∷ choice 0 ∷ [], falls) ∷ (read ∷ choice 1 ∷ write ∷ read ∷ choice 1 ∷ write ∷ read ∷ choice 2 ∷ [], falls) ∷ []) ∷
     rounds-to 1 (while 0 (and! Y X) null)
-    (fall
-    ((choice 0 ∷ []) ∷
-    (choice 1 ∷ read ∷ choice 0 ∷ []) ∷
-    (choice 1 ∷ read ∷ choice 1 ∷ choice 0 ∷ []) ∷
-    (choice 1 ∷ read ∷ choice 1 ∷ choice 1 ∷ read ∷ choice 0 ∷ []) ∷
-    [])) ∷
+    ((choice 0 ∷ [], falls) ∷ (choice 1 ∷ read ∷ choice 0 ∷ [], falls) ∷ (choice 2 ∷ read ∷ choice 0 ∷ [], falls) ∷ (choice 1 ∷ read ∷ choice 2 ∷ [], falls) ∷ (choice 2 ∷ read ∷ choice 1 ∷ [], falls) ∷ (choice 2 ∷ read ∷ choice 2 ∷ [], falls) ∷ (choice 1 ∷ read ∷ choice 1 ∷ choice 0 ∷ [], falls) ∷ (choice 1 ∷ read ∷ choice 1 ∷ choice 1 ∷ read ∷ choice 0 ∷ [], falls) ∷ (choice 1 ∷ read ∷ choice 1 ∷ choice 2 ∷ read ∷ choice 0 ∷ [], falls) ∷ (choice 1 ∷ read ∷ choice 1 ∷ choice 1 ∷ read ∷ choice 2 ∷ [], falls) ∷ (choice 1 ∷ read ∷ choice 1 ∷ choice 2 ∷ read ∷ choice 1 ∷ [], falls) ∷ (choice 1 ∷ read ∷ choice 1 ∷ choice 2 ∷ read ∷ choice 2 ∷ [], falls) ∷ []) ∷
     rounds-to 2 (repeat 0 X writes)
-    (fall
-    ((read ∷ choice 0 ∷ []) ∷
-    (read ∷ choice 1 ∷ write ∷ choice 0 ∷ []) ∷
-    (read ∷ choice 1 ∷ write ∷ choice 1 ∷ write ∷ choice 0 ∷ []) ∷
-    [])) ∷
+    ((read ∷ choice 0 ∷ [], falls) ∷ (read ∷ choice 1 ∷ write ∷ choice 0 ∷ [], falls) ∷ (read ∷ choice 1 ∷ write ∷ choice 1 ∷ write ∷ choice 0 ∷ [], falls) ∷ []) ∷
     rounds-to 1 (repeat 1 X writes)
-    (fall ((read ∷ choice 1 ∷ write ∷ choice 0 ∷ []) ∷ (read ∷ choice 1 ∷ write ∷ choice 1 ∷ write ∷ choice 0 ∷ []) ∷ [])) ∷
+    ((read ∷ choice 1 ∷ write ∷ choice 0 ∷ [], falls) ∷ (read ∷ choice 1 ∷ write ∷ choice 1 ∷ write ∷ choice 0 ∷ [], falls) ∷ []) ∷
+    rounds-to 1 (repeat 0 (not! Y) writes) ((choice 0 ∷ choice 0 ∷ [], falls) ∷ (choice 0 ∷ choice 1 ∷ write ∷ choice 0 ∷ [], falls) ∷ (choice 1 ∷ choice 0 ∷ [], falls) ∷ (choice 1 ∷ choice 1 ∷ write ∷ choice 0 ∷ [], falls) ∷ (choice 2 ∷ choice 0 ∷ [], falls) ∷ (choice 2 ∷ choice 1 ∷ write ∷ choice 0 ∷ [], falls) ∷ []) ∷
     []
 
 -- "forever ends only by jump"
@@ -299,11 +265,7 @@ forevers =
     rounds-to 2 (forever 0 writes) (([], stops) ∷ (choice 1 ∷ write ∷ [], stops) ∷ (choice 1 ∷ write ∷ choice 1 ∷ write ∷ [], stops) ∷ []) ∷
     rounds-to 1 (forever 1 writes) ((choice 1 ∷ write ∷ [], stops) ∷ (choice 1 ∷ write ∷ choice 1 ∷ write ∷ [], stops) ∷ []) ∷
     rounds-to 1 (block (forever 1 (disable (j ∷ [])) ∷ writes ∷ []))
-    ((choice 1 ∷ choice 0 ∷ write ∷ [], falls) ∷
-    (choice 1 ∷ choice 1 ∷ [], stops) ∷
-    (choice 1 ∷ choice 1 ∷ choice 1 ∷ choice 0 ∷ write ∷ [], falls) ∷
-    (choice 1 ∷ choice 1 ∷ choice 1 ∷ choice 1 ∷ [], stops) ∷
-    []) ∷
+    ((choice 1 ∷ choice 0 ∷ write ∷ [], falls) ∷ (choice 1 ∷ choice 1 ∷ [], stops) ∷ (choice 1 ∷ choice 1 ∷ choice 1 ∷ choice 0 ∷ write ∷ [], falls) ∷ (choice 1 ∷ choice 1 ∷ choice 1 ∷ choice 1 ∷ [], stops) ∷ []) ∷
     rounds-to 1 (forever 0 (returns X)) (([], stops) ∷ (choice 1 ∷ read ∷ [], stops) ∷ []) ∷
     []
 
@@ -312,44 +274,31 @@ forevers =
 abbrev jumps : List Case
 jumps =
     rounds-to 2 (while 0 Y (disable (j ∷ [])))
-    (fall
-    ((choice 0 ∷ []) ∷
-    (choice 1 ∷ choice 0 ∷ []) ∷
-    (choice 1 ∷ choice 1 ∷ choice 0 ∷ []) ∷
-    (choice 1 ∷ choice 1 ∷ choice 1 ∷ choice 0 ∷ []) ∷
-    (choice 1 ∷ choice 1 ∷ choice 1 ∷ choice 1 ∷ choice 0 ∷ []) ∷
-    [])) ∷
+    ((choice 0 ∷ [], falls) ∷ (choice 2 ∷ [], falls) ∷ (choice 1 ∷ choice 0 ∷ [], falls) ∷ (choice 1 ∷ choice 1 ∷ choice 0 ∷ [], falls) ∷ (choice 1 ∷ choice 1 ∷ choice 2 ∷ [], falls) ∷ (choice 1 ∷ choice 1 ∷ choice 1 ∷ choice 0 ∷ [], falls) ∷ (choice 1 ∷ choice 1 ∷ choice 1 ∷ choice 1 ∷ choice 0 ∷ [], falls) ∷ (choice 1 ∷ choice 1 ∷ choice 1 ∷ choice 1 ∷ choice 2 ∷ [], falls) ∷ []) ∷
     rounds-to 1 (for 0 null Y reads (block (disable (j ∷ []) ∷ writes ∷ [])))
-    (fall
-    ((choice 0 ∷ []) ∷
-    (choice 1 ∷ choice 0 ∷ []) ∷
-    (choice 1 ∷ choice 1 ∷ read ∷ choice 0 ∷ []) ∷
-    [])) ∷
-    rounds-to 0 (repeat 1 Y (disable (j ∷ []))) (fall ((choice 1 ∷ choice 0 ∷ []) ∷ (choice 1 ∷ choice 1 ∷ choice 0 ∷ []) ∷ [])) ∷
+    ((choice 0 ∷ [], falls) ∷ (choice 2 ∷ [], falls) ∷ (choice 1 ∷ choice 0 ∷ [], falls) ∷ (choice 1 ∷ choice 1 ∷ read ∷ choice 0 ∷ [], falls) ∷ (choice 1 ∷ choice 1 ∷ read ∷ choice 2 ∷ [], falls) ∷ []) ∷
+    rounds-to 0 (repeat 1 Y (disable (j ∷ []))) ((choice 1 ∷ choice 0 ∷ [], falls) ∷ (choice 1 ∷ choice 1 ∷ choice 0 ∷ [], falls) ∷ []) ∷
     rounds-to 1 (while 0 Y (block (ifElse X (block (disable (j ∷ []) ∷ [])) absent ∷ writes ∷ [])))
-    (fall
-    ((choice 0 ∷ []) ∷
-    (choice 1 ∷ read ∷ choice 1 ∷ choice 0 ∷ []) ∷
-    (choice 1 ∷ read ∷ choice 1 ∷ choice 1 ∷ choice 0 ∷ []) ∷
-    (choice 1 ∷ read ∷ choice 0 ∷ write ∷ choice 0 ∷ []) ∷
-    [])) ∷
+    ((choice 0 ∷ [], falls) ∷ (choice 2 ∷ [], falls) ∷ (choice 1 ∷ read ∷ choice 1 ∷ choice 0 ∷ [], falls) ∷ (choice 1 ∷ read ∷ choice 1 ∷ choice 1 ∷ choice 0 ∷ [], falls) ∷ (choice 1 ∷ read ∷ choice 1 ∷ choice 1 ∷ choice 2 ∷ [], falls) ∷ (choice 1 ∷ read ∷ choice 0 ∷ write ∷ choice 0 ∷ [], falls) ∷ (choice 1 ∷ read ∷ choice 0 ∷ write ∷ choice 2 ∷ [], falls) ∷ (choice 1 ∷ read ∷ choice 2 ∷ write ∷ choice 0 ∷ [], falls) ∷ (choice 1 ∷ read ∷ choice 2 ∷ write ∷ choice 2 ∷ [], falls) ∷ []) ∷
     rounds-to 1 (while 0 Y (block (repeat 0 Y (disable (j ∷ [])) ∷ writes ∷ [])))
-    (fall
-    ((choice 0 ∷ []) ∷
-    (choice 1 ∷ choice 0 ∷ write ∷ choice 0 ∷ []) ∷
-    (choice 1 ∷ choice 1 ∷ choice 0 ∷ write ∷ choice 0 ∷ []) ∷
-    (choice 1 ∷ choice 1 ∷ choice 1 ∷ choice 0 ∷ write ∷ choice 0 ∷ []) ∷
-    [])) ∷
+    ((choice 0 ∷ [], falls) ∷ (choice 2 ∷ [], falls) ∷ (choice 1 ∷ choice 0 ∷ write ∷ choice 0 ∷ [], falls) ∷ (choice 1 ∷ choice 0 ∷ write ∷ choice 2 ∷ [], falls) ∷ (choice 1 ∷ choice 1 ∷ choice 0 ∷ write ∷ choice 0 ∷ [], falls) ∷ (choice 1 ∷ choice 1 ∷ choice 0 ∷ write ∷ choice 2 ∷ [], falls) ∷ (choice 1 ∷ choice 1 ∷ choice 1 ∷ choice 0 ∷ write ∷ choice 0 ∷ [], falls) ∷ (choice 1 ∷ choice 1 ∷ choice 1 ∷ choice 0 ∷ write ∷ choice 2 ∷ [], falls) ∷ []) ∷
     rounds-to 0 (disable (j ∷ [])) ((choice 0 ∷ [], leaves) ∷ (choice 1 ∷ [], again) ∷ []) ∷
     rounds-to 0 (block (disable (j ∷ []) ∷ writes ∷ [])) ((choice 0 ∷ [], leaves) ∷ (choice 1 ∷ [], again) ∷ []) ∷
-    rounds-to 1 (block (while 0 Y (returns absent) ∷ writes ∷ [])) ((choice 0 ∷ write ∷ [], falls) ∷ (choice 1 ∷ [], stops) ∷ []) ∷
+    rounds-to 1 (block (while 0 Y (returns absent) ∷ writes ∷ [])) ((choice 0 ∷ write ∷ [], falls) ∷ (choice 2 ∷ write ∷ [], falls) ∷ (choice 1 ∷ [], stops) ∷ []) ∷
+    rounds-to 1 (while 1 Y (disable (j ∷ []))) ((choice 1 ∷ choice 0 ∷ [], falls) ∷ (choice 1 ∷ choice 1 ∷ choice 0 ∷ [], falls) ∷ (choice 1 ∷ choice 1 ∷ choice 2 ∷ [], falls) ∷ (choice 1 ∷ choice 1 ∷ choice 1 ∷ choice 0 ∷ [], falls) ∷ (choice 1 ∷ choice 1 ∷ choice 1 ∷ choice 1 ∷ choice 0 ∷ [], falls) ∷ (choice 1 ∷ choice 1 ∷ choice 1 ∷ choice 1 ∷ choice 2 ∷ [], falls) ∷ []) ∷
+    rounds-to 1 (for 1 null Y reads (block (disable (j ∷ []) ∷ writes ∷ []))) ((choice 1 ∷ choice 0 ∷ [], falls) ∷ (choice 1 ∷ choice 1 ∷ read ∷ choice 0 ∷ [], falls) ∷ (choice 1 ∷ choice 1 ∷ read ∷ choice 2 ∷ [], falls) ∷ (choice 1 ∷ choice 1 ∷ read ∷ choice 1 ∷ choice 0 ∷ [], falls) ∷ (choice 1 ∷ choice 1 ∷ read ∷ choice 1 ∷ choice 1 ∷ read ∷ choice 0 ∷ [], falls) ∷ (choice 1 ∷ choice 1 ∷ read ∷ choice 1 ∷ choice 1 ∷ read ∷ choice 2 ∷ [], falls) ∷ []) ∷
+    rounds-to 1 (block (forever 0 (disable (j ∷ [])) ∷ writes ∷ [])) (([], stops) ∷ (choice 1 ∷ choice 0 ∷ write ∷ [], falls) ∷ (choice 1 ∷ choice 1 ∷ [], stops) ∷ []) ∷
+    rounds-to 1 (while 0 Y (caseOf Y (arm (lit ∷ []) (disable (j ∷ [])) ∷ default writes ∷ []))) ((choice 0 ∷ [], falls) ∷ (choice 2 ∷ [], falls) ∷ (choice 1 ∷ choice 0 ∷ choice 0 ∷ [], falls) ∷ (choice 1 ∷ choice 0 ∷ choice 1 ∷ choice 0 ∷ [], falls) ∷ (choice 1 ∷ choice 0 ∷ choice 1 ∷ choice 2 ∷ [], falls) ∷ (choice 1 ∷ choice 1 ∷ write ∷ choice 0 ∷ [], falls) ∷ (choice 1 ∷ choice 1 ∷ write ∷ choice 2 ∷ [], falls) ∷ (choice 1 ∷ [], stops) ∷ []) ∷
+    rounds-to 1 (while 0 Y (block (wait Y (disable (j ∷ [])) ∷ writes ∷ []))) ((choice 0 ∷ [], falls) ∷ (choice 2 ∷ [], falls) ∷ (choice 1 ∷ choice 1 ∷ choice 0 ∷ [], falls) ∷ (choice 1 ∷ choice 1 ∷ choice 1 ∷ choice 0 ∷ [], falls) ∷ (choice 1 ∷ choice 1 ∷ choice 1 ∷ choice 2 ∷ [], falls) ∷ (choice 1 ∷ choice 0 ∷ [], stops) ∷ (choice 1 ∷ choice 2 ∷ [], stops) ∷ []) ∷
+    rounds-to 1 (while 0 Y (block (delayed (delay (X ∷ [])) (disable (j ∷ [])) ∷ writes ∷ []))) ((choice 0 ∷ [], falls) ∷ (choice 2 ∷ [], falls) ∷ (choice 1 ∷ read ∷ choice 0 ∷ [], falls) ∷ (choice 1 ∷ read ∷ choice 1 ∷ choice 0 ∷ [], falls) ∷ (choice 1 ∷ read ∷ choice 1 ∷ choice 2 ∷ [], falls) ∷ []) ∷
+    rounds-to 1 (while 0 Y (block (awaits (on (event X absent ∷ [])) (disable (j ∷ [])) ∷ writes ∷ []))) ((choice 0 ∷ [], falls) ∷ (choice 2 ∷ [], falls) ∷ (choice 1 ∷ read ∷ choice 0 ∷ [], falls) ∷ (choice 1 ∷ read ∷ choice 1 ∷ choice 0 ∷ [], falls) ∷ (choice 1 ∷ read ∷ choice 1 ∷ choice 2 ∷ [], falls) ∷ []) ∷
     []
 
 -- "a disable whose path is one segment with jump mark 1": no other disable jumps
 abbrev others : List ℕ → List Case
 others ns =
     straight (disable ns) ([] ∷ []) ∷
-    rounds-to 1 (while 0 Y (block (disable ns ∷ writes ∷ []))) (fall ((choice 0 ∷ []) ∷ (choice 1 ∷ write ∷ choice 0 ∷ []) ∷ [])) ∷
+    rounds-to 1 (while 0 Y (block (disable ns ∷ writes ∷ []))) ((choice 0 ∷ [], falls) ∷ (choice 2 ∷ [], falls) ∷ (choice 1 ∷ write ∷ choice 0 ∷ [], falls) ∷ (choice 1 ∷ write ∷ choice 2 ∷ [], falls) ∷ []) ∷
     []
 
 -- "A task with effect 1 writes, 0 does nothing, 2 and 3 read", and "effect plus 4 if it suspends"; "but a two-segment task path with
@@ -380,13 +329,10 @@ controls =
     straight (awaits anything absent) ([] ∷ []) ∷
     straight (awaits (on (event Y X ∷ event W absent ∷ [])) reads) ((read ∷ write ∷ read ∷ []) ∷ []) ∷
     straight (awaits (on (event X Y ∷ [])) absent) ((read ∷ []) ∷ []) ∷
-    rounds-to 0 (wait X writes) ((read ∷ choice 1 ∷ write ∷ [], falls) ∷ (read ∷ choice 0 ∷ [], stops) ∷ []) ∷
-    rounds-to 0 (block (wait Y absent ∷ writes ∷ [])) ((choice 1 ∷ write ∷ [], falls) ∷ (choice 0 ∷ [], stops) ∷ []) ∷
+    rounds-to 0 (wait X writes) ((read ∷ choice 1 ∷ write ∷ [], falls) ∷ (read ∷ choice 0 ∷ [], stops) ∷ (read ∷ choice 2 ∷ [], stops) ∷ []) ∷
+    rounds-to 0 (block (wait Y absent ∷ writes ∷ [])) ((choice 1 ∷ write ∷ [], falls) ∷ (choice 0 ∷ [], stops) ∷ (choice 2 ∷ [], stops) ∷ []) ∷
     rounds-to 0 (wait (and! Y X) absent)
-    ((choice 1 ∷ read ∷ choice 1 ∷ [], falls) ∷
-    (choice 0 ∷ [], stops) ∷
-    (choice 1 ∷ read ∷ choice 0 ∷ [], stops) ∷
-    []) ∷
+    ((choice 1 ∷ read ∷ choice 1 ∷ [], falls) ∷ (choice 0 ∷ [], stops) ∷ (choice 1 ∷ read ∷ choice 0 ∷ [], stops) ∷ (choice 2 ∷ read ∷ choice 0 ∷ [], stops) ∷ (choice 1 ∷ read ∷ choice 2 ∷ [], stops) ∷ (choice 2 ∷ read ∷ choice 1 ∷ [], stops) ∷ (choice 2 ∷ read ∷ choice 2 ∷ [], stops) ∷ []) ∷
     []
 
 -- "Block: initialisers, then statements"; "A systask evaluates its arguments; null does nothing"
@@ -417,7 +363,8 @@ abbrev cutShort : List Case
 cutShort =
     cut 0 0 writes ([] ∷ []) ∷
     cut 1 0 (block (reads ∷ writes ∷ [])) ((read ∷ []) ∷ []) ∷
-    cut 3 1 (while 0 X writes) ((read ∷ choice 0 ∷ []) ∷ (read ∷ choice 1 ∷ write ∷ []) ∷ []) ∷
+    cut 3 1 (while 0 X writes) ((read ∷ choice 0 ∷ []) ∷ (read ∷ choice 2 ∷ []) ∷ (read ∷ choice 1 ∷ write ∷ []) ∷ (read ∷ choice 1 ∷ write ∷ []) ∷ []) ∷
+    cut 1 0 (wait Y writes) ((choice 1 ∷ []) ∷ (choice 0 ∷ []) ∷ (choice 2 ∷ []) ∷ []) ∷
     []
 
 abbrev forEach : {A : Type 0} → (A → List Case) → List A → List Case
@@ -462,13 +409,13 @@ OnlyRuns c = OnlyBy (c .extent) (commandOf c) (c .expected)
 pub only-runs : Each OnlyRuns cases
 only-runs = each-expected (λ c. OnlyBy (c .extent) (commandOf c)) shown (λ c. c .expected) (λ c. only-by (c .extent) (c .most) (commandOf c)) cases joint
 
--- how many these are
+-- how many these are, without those that are cut short
 abbrev howMany : List Bool → ℕ
 howMany [] = 0
 howMany (true ∷ bs) = suc (howMany bs)
 howMany (false ∷ bs) = howMany bs
 
-pub loopless-cases : howMany (map (λ c. loopless (commandOf c)) cases) ≡ 162
+pub loopless-cases : howMany (map (λ c. isWhole (c .extent) && loopless (commandOf c)) cases) ≡ 161
 unfolding fold evaluationAt heldAt executionAt exprClass stmtClass stmtClassIn stmtWords taskEffect numbered kindNumber kindOf placeFrom kinds same isNamed begins count segments isLocal isMarked isLoopJump inRowOrder seenBelow seenAt seen some refers loopless
 loopless-cases = refl
 

@@ -1,5 +1,5 @@
--- How a statement runs: document 01, "How a path runs", with the clauses of IEEE 1800 that fix it in brackets. Definitions only.
--- Nothing here is written from the Rust. A choice has the number by which document 02, Paper 6, tells it.
+-- How a statement runs: document 01, "How a path runs", and document 02, Paper 2, with the clauses of IEEE 1800 that fix it in
+-- brackets. Definitions only. Nothing here is written from the Rust. A choice has the number by which document 02, Paper 6, tells it.
 use mathlib.Core.List.{List, [], _∷_}
 use mathlib.Core.Bool.{Bool, true, false, cond, _&&_, _||_, not}
 use Prim.Native.Nat.{ℕ, suc}
@@ -13,7 +13,7 @@ use Rattle.reads.specs.declared.Iff.the-variants.{Held}
 use Rattle.reads.specs.PathRows.{begins, segments, isLoopJump}
 use Rattle.reads.specs.Mentions.{refers}
 use Rattle.paths.specs.Commands.{PathEvent, read, write, outside, choice, Ending, stops, leaves, again, out-of-loop, out-of-round, Command, skip, emit, exit, seq, alt, star, catch, Runs}
-use Rattle.paths.specs.Evaluation.{is-true, is-false, Evaluation, inOrder, noEvaluation, evaluations}
+use Rattle.paths.specs.Evaluation.{is-true, Evaluation, notTrue, inOrder, noEvaluation, evaluations}
 
 -- how a row runs that is a statement, a declaration or an arm of a case
 pub record Execution : Type 0 where
@@ -30,9 +30,10 @@ plain c = record { run = c; labels = []; isDefault = false }
 abbrev pub noExecution : Execution
 noExecution = plain skip
 
--- the condition does not come out true: the else side is taken, a loop ends, a wait does not go on
+-- the condition does not come out true: "`if` then takes the else side, a loop ends, `wait` goes on only when true" (12.4, 12.7,
+-- 9.4.3)
 abbrev pub unmet : Evaluation → Command
-unmet e = e .truth is-false
+unmet = notTrue
 
 -- "Block: initialisers, then statements" (6.21, 9.3.1)
 abbrev pub oneByOne : List Execution → Command
