@@ -2,8 +2,9 @@
 //!
 //! The text is read from the folder that `VITAMIN_SRC` names. It is changed by the edits of `patches/` alone; modules that the
 //! publication leaves out are those of `absent/`, where every function ends the run. With the feature `wrong`, each edit of
-//! `wrong/` makes one more copy of the walk, or of the reading of a sheet, with that one mistake in it. An edit whose text does
-//! not stand where it must, as often as it must, stops the build.
+//! `wrong/` makes one more copy of the walk, or of the reading of a sheet, with that one mistake in it, and with the feature
+//! `wrong-runs` one more copy of the listing of runs. An edit whose text does not stand where it must, as often as it must, stops
+//! the build.
 
 use std::env;
 use std::fmt::Write as _;
@@ -25,6 +26,10 @@ const ABSENT: [&str; 5] = ["case_inside", "range_rules", "sysfn", "value_rules",
 
 /// The files of the second reading, which wrong readings are copies of.
 const READING: [&str; 3] = ["src/reading/mod.rs", "src/reading/kinds.rs", "src/reading/tables.rs"];
+
+/// The files of the listing of runs, which wrong listings are copies of.
+const LISTING: [&str; 5] =
+    ["src/runs/mod.rs", "src/runs/expressions.rs", "src/runs/lists.rs", "src/runs/statements.rs", "src/runs/view.rs"];
 
 /// One change of a text: what stands there, what is to stand there, and how often it stands there.
 struct Hunk {
@@ -138,24 +143,32 @@ fn walk_module(out: &mut String, name: &str, folder: &Path) {
     .expect("written");
 }
 
-fn reading_module(out: &mut String, name: &str, folder: &Path) {
-    let file = folder.join("src/reading/mod.rs");
+/// The module of a copy of one of our own, from its first file.
+fn copied_module(out: &mut String, name: &str, file: &Path) {
     writeln!(out, "#[allow(unused)] #[path = {file:?}] pub mod {name};").expect("written");
 }
 
-/// The copies with one mistake each, and the list of them.
+/// Our own files by their paths.
+fn own(here: &Path, paths: &[&str]) -> Vec<(String, String)> {
+    paths.iter().map(|path| (path.to_string(), fs::read_to_string(here.join(path)).expect("a file of ours"))).collect()
+}
+
+fn is_of_listing(edit: &Edit) -> bool {
+    LISTING.contains(&edit.file.as_str())
+}
+
+/// The copies of walks and readings with one mistake each, and the lists of them.
 fn wrong_modules(out: &mut String, here: &Path, built: &Path, da: &[(String, String)]) {
-    let reading: Vec<(String, String)> =
-        READING.iter().map(|path| (path.to_string(), fs::read_to_string(here.join(path)).expect("the reading"))).collect();
+    let reading = own(here, &READING);
     let mut walks = String::new();
     let mut readings = String::new();
-    for edit in edits_of(&here.join("wrong")) {
+    for edit in edits_of(&here.join("wrong")).into_iter().filter(|edit| !is_of_listing(edit)) {
         let module = format!("wrong_{}", edit.name);
         let folder = built.join(&module);
         let entry = format!("({:?}, {:?}, {module}", edit.name, edit.title);
         if READING.contains(&edit.file.as_str()) {
             lay_down(&folder, &reading, Some(&edit));
-            reading_module(out, &module, &folder);
+            copied_module(out, &module, &folder.join(READING[0]));
             writeln!(readings, "{entry}::load, {module}::held),").expect("written");
         } else {
             assert!(da.iter().any(|(path, _)| *path == edit.file), "{}: no such file: {}", edit.name, edit.file);
@@ -167,6 +180,20 @@ fn wrong_modules(out: &mut String, here: &Path, built: &Path, da: &[(String, Str
     writeln!(out, "pub static WRONG_WALKS: &[(&str, &str, crate::wrong::Walk)] = &[{walks}];").expect("written");
     writeln!(out, "pub static WRONG_READINGS: &[(&str, &str, crate::wrong::Load, crate::wrong::Held)] = &[{readings}];")
         .expect("written");
+}
+
+/// The copies of the listing with one mistake each, and the list of them.
+fn wrong_listings(out: &mut String, here: &Path, built: &Path) {
+    let listing = own(here, &LISTING);
+    let mut listings = String::new();
+    for edit in edits_of(&here.join("wrong")).into_iter().filter(is_of_listing) {
+        let module = format!("wrong_{}", edit.name);
+        let folder = built.join(&module);
+        lay_down(&folder, &listing, Some(&edit));
+        copied_module(out, &module, &folder.join(LISTING[0]));
+        writeln!(listings, "({:?}, {:?}, {module}::listed, {module}::sampled),", edit.name, edit.title).expect("written");
+    }
+    writeln!(out, "pub static WRONG_LISTINGS: &[crate::wrong_runs::Wrong] = &[{listings}];").expect("written");
 }
 
 /// The published texts by their paths, patched.
@@ -214,6 +241,10 @@ fn main() {
         READING.iter().for_each(|path| println!("cargo:rerun-if-changed={path}"));
         let da: Vec<(String, String)> = texts.into_iter().filter(|(path, _)| path.contains("/da/")).collect();
         wrong_modules(&mut out, &here, &built, &da);
+    }
+    if env::var("CARGO_FEATURE_WRONG_RUNS").is_ok() {
+        LISTING.iter().for_each(|path| println!("cargo:rerun-if-changed={path}"));
+        wrong_listings(&mut out, &here, &built);
     }
     fs::write(built.join("published.rs"), out).expect("written");
 }

@@ -1,5 +1,6 @@
 -- Which evaluations must exist. A theorem about all runs is true of too few runs as well, so each sentence of document 01,
--- "How a path runs", on expressions and targets has small rows here with the complete list of their runs.
+-- "How a path runs", and of document 02, Paper 2, on expressions and targets has small rows here with the complete list of their
+-- runs: those that come out true first, then false, then unknown. `oracle/runs` lists them a second time.
 use mathlib.Core.Path.{_≡_, refl}
 use mathlib.Core.Bool.{Bool, true, false}
 use mathlib.Core.List.{List, [], _∷_, _++_, map}
@@ -161,8 +162,8 @@ store = case as-target
 abbrev pub cut : ℕ → Way → Row → List (List PathEvent) → Case
 cut n way what runs = record { way = way; what = what; extent = up-to n; expected = map (λ t. (t, stops)) runs }
 
--- "A condition, or an operand whose truth is asked, is evaluated and then is freely true or false"; where it is not asked,
--- nothing is chosen
+-- "A condition, or an operand whose truth is asked, is evaluated and then is freely true or false"; "From here a condition may be
+-- unknown"; where it is not asked, nothing is chosen
 abbrev truths : List Case
 truths =
     isTrue X ((read ∷ choice 1 ∷ []) ∷ []) ∷
@@ -185,30 +186,74 @@ truths =
     isUnknown (minus X) ((read ∷ choice 2 ∷ []) ∷ []) ∷
     []
 
--- "&& is false after a false left; otherwise, and only then, the right is evaluated and gives the truth"
+-- "&& is false after a false left; ... otherwise, and only then, the right is evaluated and gives the truth"; "&& goes on to its
+-- right unless the left is false"; "After an unknown left, && is false if the right is, ... unknown otherwise"
 abbrev ands : List Case
 ands =
     isTrue (and! Y X) ((choice 1 ∷ read ∷ choice 1 ∷ []) ∷ []) ∷
     isFalse (and! Y X) ((choice 0 ∷ []) ∷ (choice 1 ∷ read ∷ choice 0 ∷ []) ∷ (choice 2 ∷ read ∷ choice 0 ∷ []) ∷ []) ∷
     isTrue (and! X W) ((read ∷ choice 1 ∷ write ∷ choice 1 ∷ []) ∷ []) ∷
-    isFalse (and! (and! Y W) X) ((choice 0 ∷ []) ∷ (choice 1 ∷ write ∷ choice 0 ∷ []) ∷ (choice 2 ∷ write ∷ choice 0 ∷ []) ∷ (choice 1 ∷ write ∷ choice 1 ∷ read ∷ choice 0 ∷ []) ∷ (choice 1 ∷ write ∷ choice 2 ∷ read ∷ choice 0 ∷ []) ∷ (choice 2 ∷ write ∷ choice 1 ∷ read ∷ choice 0 ∷ []) ∷ (choice 2 ∷ write ∷ choice 2 ∷ read ∷ choice 0 ∷ []) ∷ []) ∷
+    isFalse (and! (and! Y W) X)
+    ((choice 0 ∷ []) ∷
+    (choice 1 ∷ write ∷ choice 0 ∷ []) ∷
+    (choice 2 ∷ write ∷ choice 0 ∷ []) ∷
+    (choice 1 ∷ write ∷ choice 1 ∷ read ∷ choice 0 ∷ []) ∷
+    (choice 1 ∷ write ∷ choice 2 ∷ read ∷ choice 0 ∷ []) ∷
+    (choice 2 ∷ write ∷ choice 1 ∷ read ∷ choice 0 ∷ []) ∷
+    (choice 2 ∷ write ∷ choice 2 ∷ read ∷ choice 0 ∷ []) ∷
+    []) ∷
     isUnknown (and! Y X) ((choice 1 ∷ read ∷ choice 2 ∷ []) ∷ (choice 2 ∷ read ∷ choice 1 ∷ []) ∷ (choice 2 ∷ read ∷ choice 2 ∷ []) ∷ []) ∷
-    isUnknown (and! (and! Y W) X) ((choice 1 ∷ write ∷ choice 1 ∷ read ∷ choice 2 ∷ []) ∷ (choice 1 ∷ write ∷ choice 2 ∷ read ∷ choice 1 ∷ []) ∷ (choice 1 ∷ write ∷ choice 2 ∷ read ∷ choice 2 ∷ []) ∷ (choice 2 ∷ write ∷ choice 1 ∷ read ∷ choice 1 ∷ []) ∷ (choice 2 ∷ write ∷ choice 1 ∷ read ∷ choice 2 ∷ []) ∷ (choice 2 ∷ write ∷ choice 2 ∷ read ∷ choice 1 ∷ []) ∷ (choice 2 ∷ write ∷ choice 2 ∷ read ∷ choice 2 ∷ []) ∷ []) ∷
-    value (and! (not! Y) W) ((choice 0 ∷ write ∷ choice 1 ∷ []) ∷ (choice 1 ∷ []) ∷ (choice 0 ∷ write ∷ choice 0 ∷ []) ∷ (choice 2 ∷ write ∷ choice 0 ∷ []) ∷ (choice 0 ∷ write ∷ choice 2 ∷ []) ∷ (choice 2 ∷ write ∷ choice 1 ∷ []) ∷ (choice 2 ∷ write ∷ choice 2 ∷ []) ∷ []) ∷
+    isUnknown (and! (and! Y W) X)
+    ((choice 1 ∷ write ∷ choice 1 ∷ read ∷ choice 2 ∷ []) ∷
+    (choice 1 ∷ write ∷ choice 2 ∷ read ∷ choice 1 ∷ []) ∷
+    (choice 1 ∷ write ∷ choice 2 ∷ read ∷ choice 2 ∷ []) ∷
+    (choice 2 ∷ write ∷ choice 1 ∷ read ∷ choice 1 ∷ []) ∷
+    (choice 2 ∷ write ∷ choice 1 ∷ read ∷ choice 2 ∷ []) ∷
+    (choice 2 ∷ write ∷ choice 2 ∷ read ∷ choice 1 ∷ []) ∷
+    (choice 2 ∷ write ∷ choice 2 ∷ read ∷ choice 2 ∷ []) ∷
+    []) ∷
+    value (and! (not! Y) W)
+    ((choice 0 ∷ write ∷ choice 1 ∷ []) ∷
+    (choice 1 ∷ []) ∷
+    (choice 0 ∷ write ∷ choice 0 ∷ []) ∷
+    (choice 2 ∷ write ∷ choice 0 ∷ []) ∷
+    (choice 0 ∷ write ∷ choice 2 ∷ []) ∷
+    (choice 2 ∷ write ∷ choice 1 ∷ []) ∷
+    (choice 2 ∷ write ∷ choice 2 ∷ []) ∷
+    []) ∷
     []
 
--- "|| is true after a true left; otherwise, and only then, the right is evaluated and gives the truth"
+-- "|| is true after a true left; otherwise, and only then, the right is evaluated and gives the truth"; "|| unless the left is true";
+-- "After an unknown left, ... || is true if the right is, and both are unknown otherwise"
 abbrev ors : List Case
 ors =
     isTrue (or! Y X) ((choice 1 ∷ []) ∷ (choice 0 ∷ read ∷ choice 1 ∷ []) ∷ (choice 2 ∷ read ∷ choice 1 ∷ []) ∷ []) ∷
     isFalse (or! Y X) ((choice 0 ∷ read ∷ choice 0 ∷ []) ∷ []) ∷
     isFalse (or! X W) ((read ∷ choice 0 ∷ write ∷ choice 0 ∷ []) ∷ []) ∷
-    isTrue (or! (and! Y W) X) ((choice 1 ∷ write ∷ choice 1 ∷ []) ∷ (choice 0 ∷ read ∷ choice 1 ∷ []) ∷ (choice 1 ∷ write ∷ choice 0 ∷ read ∷ choice 1 ∷ []) ∷ (choice 2 ∷ write ∷ choice 0 ∷ read ∷ choice 1 ∷ []) ∷ (choice 1 ∷ write ∷ choice 2 ∷ read ∷ choice 1 ∷ []) ∷ (choice 2 ∷ write ∷ choice 1 ∷ read ∷ choice 1 ∷ []) ∷ (choice 2 ∷ write ∷ choice 2 ∷ read ∷ choice 1 ∷ []) ∷ []) ∷
+    isTrue (or! (and! Y W) X)
+    ((choice 1 ∷ write ∷ choice 1 ∷ []) ∷
+    (choice 0 ∷ read ∷ choice 1 ∷ []) ∷
+    (choice 1 ∷ write ∷ choice 0 ∷ read ∷ choice 1 ∷ []) ∷
+    (choice 2 ∷ write ∷ choice 0 ∷ read ∷ choice 1 ∷ []) ∷
+    (choice 1 ∷ write ∷ choice 2 ∷ read ∷ choice 1 ∷ []) ∷
+    (choice 2 ∷ write ∷ choice 1 ∷ read ∷ choice 1 ∷ []) ∷
+    (choice 2 ∷ write ∷ choice 2 ∷ read ∷ choice 1 ∷ []) ∷
+    []) ∷
     isUnknown (or! Y X) ((choice 0 ∷ read ∷ choice 2 ∷ []) ∷ (choice 2 ∷ read ∷ choice 0 ∷ []) ∷ (choice 2 ∷ read ∷ choice 2 ∷ []) ∷ []) ∷
-    isUnknown (or! (and! Y W) X) ((choice 0 ∷ read ∷ choice 2 ∷ []) ∷ (choice 1 ∷ write ∷ choice 0 ∷ read ∷ choice 2 ∷ []) ∷ (choice 2 ∷ write ∷ choice 0 ∷ read ∷ choice 2 ∷ []) ∷ (choice 1 ∷ write ∷ choice 2 ∷ read ∷ choice 0 ∷ []) ∷ (choice 1 ∷ write ∷ choice 2 ∷ read ∷ choice 2 ∷ []) ∷ (choice 2 ∷ write ∷ choice 1 ∷ read ∷ choice 0 ∷ []) ∷ (choice 2 ∷ write ∷ choice 1 ∷ read ∷ choice 2 ∷ []) ∷ (choice 2 ∷ write ∷ choice 2 ∷ read ∷ choice 0 ∷ []) ∷ (choice 2 ∷ write ∷ choice 2 ∷ read ∷ choice 2 ∷ []) ∷ []) ∷
+    isUnknown (or! (and! Y W) X)
+    ((choice 0 ∷ read ∷ choice 2 ∷ []) ∷
+    (choice 1 ∷ write ∷ choice 0 ∷ read ∷ choice 2 ∷ []) ∷
+    (choice 2 ∷ write ∷ choice 0 ∷ read ∷ choice 2 ∷ []) ∷
+    (choice 1 ∷ write ∷ choice 2 ∷ read ∷ choice 0 ∷ []) ∷
+    (choice 1 ∷ write ∷ choice 2 ∷ read ∷ choice 2 ∷ []) ∷
+    (choice 2 ∷ write ∷ choice 1 ∷ read ∷ choice 0 ∷ []) ∷
+    (choice 2 ∷ write ∷ choice 1 ∷ read ∷ choice 2 ∷ []) ∷
+    (choice 2 ∷ write ∷ choice 2 ∷ read ∷ choice 0 ∷ []) ∷
+    (choice 2 ∷ write ∷ choice 2 ∷ read ∷ choice 2 ∷ []) ∷
+    []) ∷
     []
 
--- "`!` flips, paren passes"
+-- "`!` flips, paren passes"; "`!` keeps it unknown"
 abbrev flips : List Case
 flips =
     isTrue (not! X) ((read ∷ choice 0 ∷ []) ∷ []) ∷
@@ -227,24 +272,72 @@ flips =
 -- "Evaluated operands of &&, || and `!` always have their truth asked", where that of the whole is not
 abbrev operands : List Case
 operands =
-    value (and! Y X) ((choice 1 ∷ read ∷ choice 1 ∷ []) ∷ (choice 0 ∷ []) ∷ (choice 1 ∷ read ∷ choice 0 ∷ []) ∷ (choice 2 ∷ read ∷ choice 0 ∷ []) ∷ (choice 1 ∷ read ∷ choice 2 ∷ []) ∷ (choice 2 ∷ read ∷ choice 1 ∷ []) ∷ (choice 2 ∷ read ∷ choice 2 ∷ []) ∷ []) ∷
-    value (or! Y X) ((choice 1 ∷ []) ∷ (choice 0 ∷ read ∷ choice 1 ∷ []) ∷ (choice 2 ∷ read ∷ choice 1 ∷ []) ∷ (choice 0 ∷ read ∷ choice 0 ∷ []) ∷ (choice 0 ∷ read ∷ choice 2 ∷ []) ∷ (choice 2 ∷ read ∷ choice 0 ∷ []) ∷ (choice 2 ∷ read ∷ choice 2 ∷ []) ∷ []) ∷
+    value (and! Y X)
+    ((choice 1 ∷ read ∷ choice 1 ∷ []) ∷
+    (choice 0 ∷ []) ∷
+    (choice 1 ∷ read ∷ choice 0 ∷ []) ∷
+    (choice 2 ∷ read ∷ choice 0 ∷ []) ∷
+    (choice 1 ∷ read ∷ choice 2 ∷ []) ∷
+    (choice 2 ∷ read ∷ choice 1 ∷ []) ∷
+    (choice 2 ∷ read ∷ choice 2 ∷ []) ∷
+    []) ∷
+    value (or! Y X)
+    ((choice 1 ∷ []) ∷
+    (choice 0 ∷ read ∷ choice 1 ∷ []) ∷
+    (choice 2 ∷ read ∷ choice 1 ∷ []) ∷
+    (choice 0 ∷ read ∷ choice 0 ∷ []) ∷
+    (choice 0 ∷ read ∷ choice 2 ∷ []) ∷
+    (choice 2 ∷ read ∷ choice 0 ∷ []) ∷
+    (choice 2 ∷ read ∷ choice 2 ∷ []) ∷
+    []) ∷
     value (not! X) ((read ∷ choice 0 ∷ []) ∷ (read ∷ choice 1 ∷ []) ∷ (read ∷ choice 2 ∷ []) ∷ []) ∷
-    value (paren (and! Y X)) ((choice 1 ∷ read ∷ choice 1 ∷ []) ∷ (choice 0 ∷ []) ∷ (choice 1 ∷ read ∷ choice 0 ∷ []) ∷ (choice 2 ∷ read ∷ choice 0 ∷ []) ∷ (choice 1 ∷ read ∷ choice 2 ∷ []) ∷ (choice 2 ∷ read ∷ choice 1 ∷ []) ∷ (choice 2 ∷ read ∷ choice 2 ∷ []) ∷ []) ∷
-    value (plus (and! Y X) W) ((choice 1 ∷ read ∷ choice 1 ∷ write ∷ []) ∷ (choice 0 ∷ write ∷ []) ∷ (choice 1 ∷ read ∷ choice 0 ∷ write ∷ []) ∷ (choice 2 ∷ read ∷ choice 0 ∷ write ∷ []) ∷ (choice 1 ∷ read ∷ choice 2 ∷ write ∷ []) ∷ (choice 2 ∷ read ∷ choice 1 ∷ write ∷ []) ∷ (choice 2 ∷ read ∷ choice 2 ∷ write ∷ []) ∷ []) ∷
+    value (paren (and! Y X))
+    ((choice 1 ∷ read ∷ choice 1 ∷ []) ∷
+    (choice 0 ∷ []) ∷
+    (choice 1 ∷ read ∷ choice 0 ∷ []) ∷
+    (choice 2 ∷ read ∷ choice 0 ∷ []) ∷
+    (choice 1 ∷ read ∷ choice 2 ∷ []) ∷
+    (choice 2 ∷ read ∷ choice 1 ∷ []) ∷
+    (choice 2 ∷ read ∷ choice 2 ∷ []) ∷
+    []) ∷
+    value (plus (and! Y X) W)
+    ((choice 1 ∷ read ∷ choice 1 ∷ write ∷ []) ∷
+    (choice 0 ∷ write ∷ []) ∷
+    (choice 1 ∷ read ∷ choice 0 ∷ write ∷ []) ∷
+    (choice 2 ∷ read ∷ choice 0 ∷ write ∷ []) ∷
+    (choice 1 ∷ read ∷ choice 2 ∷ write ∷ []) ∷
+    (choice 2 ∷ read ∷ choice 1 ∷ write ∷ []) ∷
+    (choice 2 ∷ read ∷ choice 2 ∷ write ∷ []) ∷
+    []) ∷
     []
 
--- "A conditional expression evaluates its condition and one arm"
+-- "A conditional expression evaluates its condition and one arm"; after an unknown condition it "evaluates both arms", in row order
 abbrev conditionals : List Case
 conditionals =
     value (ternary Y X W) ((choice 1 ∷ read ∷ []) ∷ (choice 0 ∷ write ∷ []) ∷ (choice 2 ∷ read ∷ write ∷ []) ∷ []) ∷
     isTrue (ternary Y X W) ((choice 1 ∷ read ∷ choice 1 ∷ []) ∷ (choice 0 ∷ write ∷ choice 1 ∷ []) ∷ (choice 2 ∷ read ∷ write ∷ choice 1 ∷ []) ∷ []) ∷
     isFalse (ternary Y X W) ((choice 1 ∷ read ∷ choice 0 ∷ []) ∷ (choice 0 ∷ write ∷ choice 0 ∷ []) ∷ (choice 2 ∷ read ∷ write ∷ choice 0 ∷ []) ∷ []) ∷
     value (ternary X Y lit) ((read ∷ choice 1 ∷ []) ∷ (read ∷ choice 0 ∷ []) ∷ (read ∷ choice 2 ∷ []) ∷ []) ∷
-    value (ternary (and! Y X) lit W) ((choice 1 ∷ read ∷ choice 1 ∷ []) ∷ (choice 0 ∷ write ∷ []) ∷ (choice 1 ∷ read ∷ choice 0 ∷ write ∷ []) ∷ (choice 2 ∷ read ∷ choice 0 ∷ write ∷ []) ∷ (choice 1 ∷ read ∷ choice 2 ∷ write ∷ []) ∷ (choice 2 ∷ read ∷ choice 1 ∷ write ∷ []) ∷ (choice 2 ∷ read ∷ choice 2 ∷ write ∷ []) ∷ []) ∷
+    value (ternary (and! Y X) lit W)
+    ((choice 1 ∷ read ∷ choice 1 ∷ []) ∷
+    (choice 0 ∷ write ∷ []) ∷
+    (choice 1 ∷ read ∷ choice 0 ∷ write ∷ []) ∷
+    (choice 2 ∷ read ∷ choice 0 ∷ write ∷ []) ∷
+    (choice 1 ∷ read ∷ choice 2 ∷ write ∷ []) ∷
+    (choice 2 ∷ read ∷ choice 1 ∷ write ∷ []) ∷
+    (choice 2 ∷ read ∷ choice 2 ∷ write ∷ []) ∷
+    []) ∷
     isUnknown (ternary Y X W) ((choice 1 ∷ read ∷ choice 2 ∷ []) ∷ (choice 0 ∷ write ∷ choice 2 ∷ []) ∷ (choice 2 ∷ read ∷ write ∷ choice 2 ∷ []) ∷ []) ∷
     value (ternary Y W X) ((choice 1 ∷ write ∷ []) ∷ (choice 0 ∷ read ∷ []) ∷ (choice 2 ∷ write ∷ read ∷ []) ∷ []) ∷
-    value (ternary (or! Y W) X Y) ((choice 1 ∷ read ∷ []) ∷ (choice 0 ∷ write ∷ choice 1 ∷ read ∷ []) ∷ (choice 2 ∷ write ∷ choice 1 ∷ read ∷ []) ∷ (choice 0 ∷ write ∷ choice 0 ∷ []) ∷ (choice 0 ∷ write ∷ choice 2 ∷ read ∷ []) ∷ (choice 2 ∷ write ∷ choice 0 ∷ read ∷ []) ∷ (choice 2 ∷ write ∷ choice 2 ∷ read ∷ []) ∷ []) ∷
+    value (ternary (or! Y W) X Y)
+    ((choice 1 ∷ read ∷ []) ∷
+    (choice 0 ∷ write ∷ choice 1 ∷ read ∷ []) ∷
+    (choice 2 ∷ write ∷ choice 1 ∷ read ∷ []) ∷
+    (choice 0 ∷ write ∷ choice 0 ∷ []) ∷
+    (choice 0 ∷ write ∷ choice 2 ∷ read ∷ []) ∷
+    (choice 2 ∷ write ∷ choice 0 ∷ read ∷ []) ∷
+    (choice 2 ∷ write ∷ choice 2 ∷ read ∷ []) ∷
+    []) ∷
     []
 
 -- "A call with side 1 writes the whole local; everything else evaluates its children"; "A call path beginning with the local
@@ -269,6 +362,7 @@ calls s =
     isTrue (callRow s [] (X ∷ [])) ((read ∷ choice 1 ∷ []) ∷ []) ∷
     isFalse (callRow s [] (X ∷ [])) ((read ∷ choice 0 ∷ []) ∷ []) ∷
     isUnknown (callRow s [] (X ∷ [])) ((read ∷ choice 2 ∷ []) ∷ []) ∷
+    value (callRow s (x ∷ y ∷ w ∷ []) []) ((read ∷ []) ∷ []) ∷
     []
 
 -- "An ident whose first segment is the local reads; so does opaque"
@@ -282,6 +376,7 @@ idents =
     isTrue opaque ((read ∷ choice 1 ∷ []) ∷ []) ∷
     isFalse opaque ((read ∷ choice 0 ∷ []) ∷ []) ∷
     isUnknown opaque ((read ∷ choice 2 ∷ []) ∷ []) ∷
+    value (ident (x ∷ y ∷ w ∷ [])) ((read ∷ []) ∷ []) ∷
     []
 
 -- "everything else evaluates its children in row order"
@@ -338,6 +433,7 @@ targets =
     store (row "lconcat" 0 (lident (x ∷ []) ∷ lident (y ∷ []) ∷ [])) ([] ∷ []) ∷
     store (row "lconcat" 0 (lident (x ∷ []) ∷ row "lbit" 0 (lident (y ∷ []) ∷ X ∷ []) ∷ [])) ((read ∷ []) ∷ []) ∷
     store (row "lerror" 0 []) ([] ∷ []) ∷
+    store (lident (x ∷ y ∷ w ∷ [])) ([] ∷ []) ∷
     []
 
 -- "A path ... may stop anywhere"
@@ -404,6 +500,27 @@ only-runs = each-expected (λ c. OnlyBy (c .extent) (commandOf c)) shown (λ c. 
 pub joint-loopless : map (λ c. loopless (commandOf c)) cases ≡ map (λ c. true) cases
 unfolding fold evaluationAt exprClass numbered kindNumber kindOf placeFrom kinds same isNamed begins count segments isLocal loopless
 joint-loopless = refl
+
+-- Rows of another local, the name 0; 5, which the local is above, is a name as any other there
+abbrev others : List (Way × Row)
+others =
+    (as-value, ident (0 ∷ [])) ∷
+    (as-value, ident (5 ∷ [])) ∷
+    (as-value, opaque) ∷
+    (as-value, callRow 0 (0 ∷ []) []) ∷
+    (as-target, lident (0 ∷ [])) ∷
+    (as-target, lident (0 ∷ 1 ∷ [])) ∷
+    (as-target, lident (5 ∷ [])) ∷
+    []
+
+pub joint-others : map (λ c. listed 0 (evaluatedAs (c .0) (nth noEvaluation 0 (evaluations 0 (c .1 nil))))) others ≡ map (λ t. (t, falls) ∷ []) ((read ∷ []) ∷ [] ∷ (read ∷ []) ∷ (read ∷ []) ∷ (write ∷ []) ∷ [] ∷ [] ∷ [])
+unfolding fold evaluationAt exprClass numbered kindNumber kindOf placeFrom kinds same isNamed begins count segments isLocal listed eachFollowed followed
+joint-others = refl
+
+-- no evaluation looks at a span
+pub span-unused : (local k s lo hi : ℕ) (cs : Forest) (es : List Evaluation) → evaluationAt local k s lo hi cs es ≡ evaluationAt local k s 0 0 cs es
+unfolding evaluationAt
+span-unused local k s lo hi cs es = refl
 
 -- The commands that no expression has: jumps, what ends them, and rounds, two at most
 

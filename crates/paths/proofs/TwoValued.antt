@@ -2,7 +2,7 @@
 -- unknown by such a choice only, as every row does (proofs/Unknown); and what they say can happen.
 use mathlib.Core.Logic.{⊎-elim}
 use mathlib.Core.List.{List}
-use Rattle.paths.specs.Commands.{PathEvent, falls, Command, seq, alt, Runs, run-seq, run-left, run-right}
+use Rattle.paths.specs.Commands.{PathEvent, falls, seq, Runs, run-seq, run-left, run-right}
 use Rattle.paths.specs.Evaluation.{Truth, is-true, is-false, is-unknown, opposite, Evaluation, asked, notFalse, notTrue, both, either, conditional}
 use Rattle.paths.specs.Unknown.{Every, Known, UnknownLaw, ShortCircuits, by-left, by-right, TakesOneArm, first-arm, second-arm}
 use Rattle.paths.proofs.Unknown.{every-parts, BothFall, parts, both-fall, one-falls, unknown-not, unknown-and}

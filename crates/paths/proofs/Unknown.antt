@@ -12,7 +12,7 @@ use Rattle.kinds.specs.declared.ExprClass.{ExprClass}
 use Rattle.kinds.specs.declared.ExprClass.the-variants.{Ident, Call, Lident, Opaque, Event, Unary, Binary, Ternary, Paren, Other}
 use Rattle.kinds.specs.Named.{exprClass}
 use Rattle.paths.specs.Commands.{PathEvent, choice, falls, Command, emit, seq, alt, Runs, run-emit, run-seq, run-off, run-left, run-right}
-use Rattle.paths.specs.Evaluation.{Truth, is-true, is-false, is-unknown, opposite, Evaluation, free, asked, notFalse, both, either, noEvaluation, evaluationOf, evaluationAt, evaluations}
+use Rattle.paths.specs.Evaluation.{is-true, is-unknown, opposite, Evaluation, free, asked, notFalse, both, either, noEvaluation, evaluationOf, evaluationAt, evaluations}
 use Rattle.paths.specs.Unknown.{Every, IsChoice, Known, Idles, UnknownLaw}
 
 -- Lists of events, and runs that fall

@@ -1,6 +1,6 @@
--- Every run of one command is a run of another: a rule for what stands in it, and for regrouping.
+-- Every run of one command is a run of another, and the same both ways: rules for what stands in a command, and for regrouping.
 use mathlib.Core.List.{List, append-assoc}
-use mathlib.Core.Path.{subst}
+use mathlib.Core.Path.{subst, sym}
 use Rattle.paths.specs.Commands.{PathEvent, Ending, falls, Command, skip, seq, alt, Runs, run-stop, run-skip, run-seq, run-off, run-left, run-right}
 
 -- every run of the first is one of the second
@@ -27,16 +27,44 @@ within-left p = record { go = λ t o x. run-left (p .go t o x) }
 pub within-right : {c d e : Command} → Within c e → Within c (alt d e)
 within-right p = record { go = λ t o x. run-right (p .go t o x) }
 
--- what does nothing may stand before
-pub within-after-skip : {c : Command} → Within c (seq skip c)
-within-after-skip = record { go = λ t o x. run-seq run-skip x }
+-- the two have the same runs
+pub record Same (c d : Command) : Type 0 where
+  pub forth : Within c d
+  pub back : Within d c
 
-pub within-assoc : {c d e : Command} → Within (seq c (seq d e)) (seq (seq c d) e)
-within-assoc {c} {d} {e} = record { go = go }
+pub same-refl : {c : Command} → Same c c
+same-refl = record { forth = within-refl; back = within-refl }
+
+pub same-trans : {c d e : Command} → Same c d → Same d e → Same c e
+same-trans p q = record { forth = within-trans (p .forth) (q .forth); back = within-trans (q .back) (p .back) }
+
+pub same-seq : {c d c′ d′ : Command} → Same c c′ → Same d d′ → Same (seq c d) (seq c′ d′)
+same-seq p q = record { forth = within-seq (p .forth) (q .forth); back = within-seq (p .back) (q .back) }
+
+-- what does nothing may stand before
+pub same-skip : {c : Command} → Same c (seq skip c)
+same-skip {c} = record { forth = record { go = λ t o x. run-seq run-skip x }; back = record { go = go } }
   where
-    go : (t : List PathEvent) (o : Ending) → Runs (seq c (seq d e)) t o → Runs (seq (seq c d) e) t o
+    go : (t : List PathEvent) (o : Ending) → Runs (seq skip c) t o → Runs c t o
     go _ _ run-stop = run-stop
-    go _ _ (run-off i x) = run-off i (run-off i x)
-    go _ _ (run-seq {s = s} x run-stop) = run-off tt (run-seq x run-stop)
-    go _ _ (run-seq {s = s} x (run-seq {s = t} {t = u} {o = o} y z)) = subst (λ v. Runs (seq (seq c d) e) v o) (append-assoc s t u) (run-seq (run-seq x y) z)
-    go _ _ (run-seq {s = s} x (run-off i y)) = run-off i (run-seq x y)
+    go _ _ (run-seq run-skip y) = y
+    go _ _ (run-off i run-stop) = run-stop
+    go _ _ (run-off i run-skip) = absurd i
+
+pub same-assoc : {c d e : Command} → Same (seq c (seq d e)) (seq (seq c d) e)
+same-assoc {c} {d} {e} = record { forth = record { go = forth }; back = record { go = back } }
+  where
+    forth : (t : List PathEvent) (o : Ending) → Runs (seq c (seq d e)) t o → Runs (seq (seq c d) e) t o
+    forth _ _ run-stop = run-stop
+    forth _ _ (run-off i x) = run-off i (run-off i x)
+    forth _ _ (run-seq {s = s} x run-stop) = run-off tt (run-seq x run-stop)
+    forth _ _ (run-seq {s = s} x (run-seq {s = t} {t = u} {o = o} y z)) = subst (λ v. Runs (seq (seq c d) e) v o) (append-assoc s t u) (run-seq (run-seq x y) z)
+    forth _ _ (run-seq {s = s} x (run-off i y)) = run-off i (run-seq x y)
+
+    back : (t : List PathEvent) (o : Ending) → Runs (seq (seq c d) e) t o → Runs (seq c (seq d e)) t o
+    back _ _ run-stop = run-stop
+    back _ _ (run-seq {t = u} {o = o} (run-seq {s = s} {t = t} x y) z) = subst (λ v. Runs (seq c (seq d e)) v o) (sym (append-assoc s t u)) (run-seq x (run-seq y z))
+    back _ _ (run-seq (run-off i x) z) = absurd i
+    back _ _ (run-off i run-stop) = run-stop
+    back _ _ (run-off i (run-seq x y)) = run-seq x (run-off i y)
+    back _ _ (run-off i (run-off j x)) = run-off j x

@@ -5,7 +5,8 @@ use Rattle.paths.specs.Marks.{Mark}
 use Rattle.paths.specs.Triples.{Triple, at, never}
 use Rattle.paths.specs.Evaluation.{Evaluation, Truth, is-true, is-false, is-unknown}
 
--- a truth that is not the opposite of the outcome that is wanted: && goes on to its right after such a one of true, || of false
+-- a truth that is not the opposite of the outcome that is wanted: && goes on to its right after a left that meets true, || after one
+-- that meets false
 abbrev pub Meets : Bool → Truth → Type 0
 Meets true is-true = Unit
 Meets true is-false = ⊥

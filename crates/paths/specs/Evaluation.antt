@@ -80,7 +80,7 @@ conditional c a b =
     alt (seq (c .truth is-true) (a .value))
     (alt (seq (c .truth is-false) (b .value)) (seq (c .truth is-unknown) (seq (a .value) (b .value))))
 
--- "everything else evaluates its children in row order" (11.3.5: all operands are evaluated; the order is left open)
+-- "everything else evaluates its children in row order" (11.3.5: all operands are evaluated; in which order is not said)
 abbrev pub inOrder : List Evaluation → Command
 inOrder [] = skip
 inOrder (e ∷ es) = seq (e .value) (inOrder es)

@@ -16,14 +16,14 @@ IsChoice outside = ⊥
 IsChoice write = ⊥
 IsChoice (choice n) = Unit
 
--- no truth that is unknown: every choice of an evaluation is a truth
+-- no truth that is unknown; every choice of an evaluation is a truth
 abbrev pub Known : PathEvent → Type 0
 Known read = Unit
 Known outside = Unit
 Known write = Unit
 Known (choice n) = n ≡ choiceOf is-unknown → ⊥
 
--- the command can go on with choices alone: "with the local unwritten and nothing read"
+-- some run of the command falls, and neither reads nor writes
 pub record Idles (c : Command) : Type 0 where
   pub events : List PathEvent
   pub idle : Every IsChoice events

@@ -1,81 +1,195 @@
--- Lists of any length: each row of a block is run where those before it have fallen, and each arm of a case can be chosen, by its
--- number and after the labels that document 01 names. The joint facts of Strength know short lists only.
-use mathlib.Core.Path.{_≡_, refl, sym}
-use mathlib.Core.Bool.{Bool, true, false, cond}
-use mathlib.Core.List.{List, [], _∷_, _++_, append-nil, append-assoc}
+-- Lists and loops of any length: each row of a block runs where those before it have fallen, each arm of a case can be chosen, by its
+-- number and after the labels that document 01 names, and no run of a case is another; and a loop runs any number of rounds. The joint
+-- facts of Strength know short lists and two rounds only.
+use mathlib.Core.Path.{_≡_, refl, ap}
+use mathlib.Core.Bool.{Bool, true, false, cond, _||_}
+use mathlib.Core.List.{List, [], _∷_, _++_, append-nil}
 use Prim.Native.Nat.{ℕ, zero, suc, _+_}
 use native.Mathlib.Nat.{add-zero, zero-add}
 use native.Mathlib.Omega.{arith}
 use lib.ListN.{length}
-use Rattle.paths.specs.Commands.{PathEvent, stops, choice, Command, skip, emit, seq, Runs}
+use Rattle.table.specs.Rows.{Forest}
+use Rattle.kinds.specs.declared.StmtClass.the-variants.{Match, Case, Block, Systask}
+use Rattle.paths.specs.Commands.{PathEvent, Ending, stops, choice, out-of-loop, Command, skip, emit, exit, seq, star, catch, Runs, run-stop, run-skip, run-seq, run-off, run-left, run-right, run-none, run-more, run-catch}
 use Rattle.paths.specs.Evaluation.{Evaluation, inOrder}
-use Rattle.paths.proofs.Within.{Within, within-refl, within-trans, within-seq, within-left, within-right, within-after-skip, within-assoc}
-use Rattle.paths.proofs.AnyLength.{Fallen, reached}
-use Rattle.stmt_paths.specs.Execution.{Execution, oneByOne, hasDefault, allLabels, armsFrom, caseOf}
+use Rattle.kinds.proofs.Below.{true-not-false}
+use Rattle.paths.proofs.Listed.{Each}
+use Rattle.paths.proofs.Within.{Within, within-refl, within-trans, within-seq, within-left, within-right, Same, same-refl, same-trans, same-seq, same-skip, same-assoc}
+use Rattle.paths.proofs.AnyLength.{each-in-turn, every-child}
+use Rattle.stmt_paths.specs.Execution.{Execution, oneByOne, hasDefault, noArm, allLabels, armsFrom, round, loop, executionOf}
 
--- "Block: initialisers, then statements", however many
-pub every-row : {before : List Execution} (r : Execution) (after : List Execution) {s t : List PathEvent} → Fallen (λ q. q .run) before s → Runs (r .run) t stops → Runs (oneByOne (before ++ (r ∷ after))) (s ++ t) stops
-every-row = reached (λ q. q .run) oneByOne (λ q more. refl)
+-- Rows of a block, arguments of a system task
 
--- Arms
+module _ (x : ℕ) (marks : ℕ → Bool) (s : ℕ) (cs : Forest) (held : List (List Evaluation)) where
+  -- "Block: initialisers, then statements", however many
+  pub every-row : (es : List Evaluation) (before : List Execution) (r : Execution) (after : List Execution)
+      → Same (executionOf x marks Block s cs es held (before ++ (r ∷ after)) .run) (seq (oneByOne before) (seq (r .run) (oneByOne after)))
+  every-row es = each-in-turn (λ r. r .run) oneByOne refl (λ r more. refl)
+
+  -- "A systask evaluates its arguments", however many
+  pub every-argument : (rs : List Execution) (before : List Evaluation) (e : Evaluation) (after : List Evaluation)
+      → Same (executionOf x marks Systask s cs (before ++ (e ∷ after)) held rs .run) (seq (inOrder before) (seq (e .value) (inOrder after)))
+  every-argument rs = every-child
+
+-- Arms of a case
 
 -- the labels of these arms, in row order
 abbrev pub labelsOf : List Execution → List Evaluation
 labelsOf [] = []
 labelsOf (r ∷ rs) = r .labels ++ labelsOf rs
 
--- "labels in row order through the chosen arm's (all of them for a default ...)"
-abbrev pub labelsThrough : List Execution → Execution → List Execution → List Evaluation
-labelsThrough before r after = labelsOf (cond (r .isDefault) (before ++ (r ∷ after)) (before ++ (r ∷ [])))
+-- "scrutinee, then labels in row order through the chosen arm's (all of them for a default ...), then that arm", by its number from 0
+abbrev pub choosesArm : Evaluation → List Execution → Execution → List Execution → Command
+choosesArm c before r after =
+    seq (c .value) (seq (emit (choice (length before))) (seq (inOrder (labelsOf (cond (r .isDefault) (before ++ (r ∷ after)) (before ++ (r ∷ []))))) (r .run)))
 
-in-order-append : (xs ys : List Evaluation) → Within (inOrder (xs ++ ys)) (seq (inOrder xs) (inOrder ys))
-in-order-append [] ys = within-after-skip
-in-order-append (e ∷ xs) ys = within-trans (within-seq within-refl (in-order-append xs ys)) within-assoc
+-- "all of them for ... no arm", by "the count of arms"
+abbrev pub choosesNone : Evaluation → List Execution → Command
+choosesNone c rs = seq (c .value) (seq (emit (choice (length rs))) (inOrder (labelsOf rs)))
 
-all-labels : (rs : List Execution) → Within (inOrder (labelsOf rs)) (allLabels rs)
-all-labels [] = within-refl
-all-labels (r ∷ rs) = within-trans (in-order-append (r .labels) (labelsOf rs)) (within-seq within-refl (all-labels rs))
+-- "no arm only where no default stands"
+abbrev pub NoDefault : List Execution → Type 0
+NoDefault = Each (λ r. r .isDefault ≡ false)
 
--- what comes before the labels of an arm, where it is not the first
-arm-after : (first all : Command) (default : Bool) (xs ys : List Evaluation)
-    → Within (cond default all (seq first (inOrder (xs ++ ys)))) (cond default all (seq (seq first (inOrder xs)) (inOrder ys)))
-arm-after first all true xs ys = within-refl
-arm-after first all false xs ys = within-trans (within-seq within-refl (in-order-append xs ys)) within-assoc
+-- a run of a case: by one of its arms, by none, or not past the scrutinee
+pub data CaseRun (c : Evaluation) (rs : List Execution) (t : List PathEvent) (o : Ending) : Type 0 where
+  of-arm : (before : List Execution) (r : Execution) (after : List Execution) → rs ≡ before ++ (r ∷ after) → Runs (choosesArm c before r after) t o → CaseRun c rs t o
+  of-none : NoDefault rs → Runs (choosesNone c rs) t o → CaseRun c rs t o
+  of-scrutinee : Runs (seq (c .value) (exit stops)) t o → CaseRun c rs t o
 
-arm-from : (m : ℕ) (first all : Command) (default : Bool) (before : List Execution) (r : Execution) (after : List Execution)
-    → Within (seq (emit (choice (m + length before))) (seq (cond (r .isDefault) all (seq first (inOrder (labelsOf (before ++ (r ∷ [])))))) (r .run))) (armsFrom m first all default (before ++ (r ∷ after)))
-arm-from m first all default [] r after = rw (add-zero m, append-nil (r .labels)) (within-left within-refl)
-arm-from m first all default (b ∷ before) r after =
+in-order-append : (xs ys : List Evaluation) → Same (inOrder (xs ++ ys)) (seq (inOrder xs) (inOrder ys))
+in-order-append [] ys = same-skip
+in-order-append (e ∷ xs) ys = same-trans (same-seq same-refl (in-order-append xs ys)) same-assoc
+
+all-labels : (rs : List Execution) → Same (inOrder (labelsOf rs)) (allLabels rs)
+all-labels [] = same-refl
+all-labels (r ∷ rs) = same-trans (in-order-append (r .labels) (labelsOf rs)) (same-seq same-refl (all-labels rs))
+
+-- arm number m + count of `before`, where the labels of `first` come first and those of all arms are `all`
+abbrev armFrom : ℕ → Command → Command → List Execution → Execution → Command
+armFrom m first all before r = seq (emit (choice (m + length before))) (seq (cond (r .isDefault) all (seq first (inOrder (labelsOf (before ++ (r ∷ [])))))) (r .run))
+
+arm-first : (m : ℕ) (first all : Command) (r : Execution) → Same (armFrom m first all [] r) (seq (emit (choice m)) (seq (cond (r .isDefault) all (seq first (inOrder (r .labels)))) (r .run)))
+arm-first m first all r = rw (add-zero m, append-nil (r .labels)) same-refl
+
+arm-later : (m : ℕ) (first all : Command) (b : Execution) (before : List Execution) (r : Execution) → Same (armFrom m first all (b ∷ before) r) (armFrom (suc m) (seq first (inOrder (b .labels))) all before r)
+arm-later m first all b before r =
     let e : m + suc (length before) ≡ suc m + length before = omega arith in
-    rw e
-    (within-right
-    (within-trans (within-seq within-refl (within-seq (arm-after first all (r .isDefault) (b .labels) (labelsOf (before ++ (r ∷ [])))) within-refl))
-    (arm-from (suc m) (seq first (inOrder (b .labels))) all default before r after)))
+    rw e (same-seq same-refl (same-seq (labels (r .isDefault)) same-refl))
+  where
+    labels : (default : Bool) → Same (cond default all (seq first (inOrder (b .labels ++ labelsOf (before ++ (r ∷ [])))))) (cond default all (seq (seq first (inOrder (b .labels))) (inOrder (labelsOf (before ++ (r ∷ []))))))
+    labels true = same-refl
+    labels false = same-trans (same-seq same-refl (in-order-append (b .labels) (labelsOf (before ++ (r ∷ []))))) same-assoc
 
+none-later : (m : ℕ) (all : Command) (rs : List Execution) (default : Bool) → noArm default (m + suc (length rs)) all ≡ noArm default (suc m + length rs) all
+none-later m all rs default = let e : m + suc (length rs) ≡ suc m + length rs = omega arith in rw e
+
+-- the arms from number m on, whichever is chosen
+module _ (all : Command) (default : Bool) where
+  arm-among : (m : ℕ) (first : Command) (before : List Execution) (r : Execution) (after : List Execution) → Within (armFrom m first all before r) (armsFrom m first all default (before ++ (r ∷ after)))
+  arm-among m first [] r after = within-trans (arm-first m first all r .forth) (within-left within-refl)
+  arm-among m first (b ∷ before) r after = within-trans (arm-later m first all b before r .forth) (within-right (arm-among (suc m) (seq first (inOrder (b .labels))) before r after))
+
+  none-among : (m : ℕ) (first : Command) (rs : List Execution) → Within (noArm default (m + length rs) all) (armsFrom m first all default rs)
+  none-among m first [] = rw (add-zero m) within-refl
+  none-among m first (r ∷ rs) = rw (none-later m all rs default) (within-right (none-among (suc m) (seq first (inOrder (r .labels))) rs))
+
+  data FromRun (m : ℕ) (first : Command) (rs : List Execution) (t : List PathEvent) (o : Ending) : Type 0 where
+    by-arm : (before : List Execution) (r : Execution) (after : List Execution) → rs ≡ before ++ (r ∷ after) → Runs (armFrom m first all before r) t o → FromRun m first rs t o
+    by-none : Runs (noArm default (m + length rs) all) t o → FromRun m first rs t o
+
+  from-run : (m : ℕ) (first : Command) (rs : List Execution) (t : List PathEvent) (o : Ending) → Runs (armsFrom m first all default rs) t o → FromRun m first rs t o
+  from-run m first [] t o x = by-none (rw (add-zero m) x)
+  from-run m first (r ∷ rs) _ _ run-stop = by-arm [] r rs refl run-stop
+  from-run m first (r ∷ rs) _ _ (run-left {s = t} {o = o} x) = by-arm [] r rs refl (arm-first m first all r .back .go t o x)
+  from-run m first (r ∷ rs) _ _ (run-right {s = t} {o = o} x) = later (from-run (suc m) (seq first (inOrder (r .labels))) rs t o x)
+    where
+      later : FromRun (suc m) (seq first (inOrder (r .labels))) rs t o → FromRun m first (r ∷ rs) t o
+      later (by-arm before q after e y) = by-arm (r ∷ before) q after (ap (λ l. r ∷ l) e) (arm-later m first all r before q .back .go t o y)
+      later (by-none y) = by-none (rw (none-later m all rs default) y)
+
+-- the labels from the first on
 labels-through : (before : List Execution) (r : Execution) (after : List Execution) (default : Bool)
-    → Within (inOrder (labelsOf (cond default (before ++ (r ∷ after)) (before ++ (r ∷ []))))) (cond default (allLabels (before ++ (r ∷ after))) (seq skip (inOrder (labelsOf (before ++ (r ∷ []))))))
+    → Same (inOrder (labelsOf (cond default (before ++ (r ∷ after)) (before ++ (r ∷ []))))) (cond default (allLabels (before ++ (r ∷ after))) (seq skip (inOrder (labelsOf (before ++ (r ∷ []))))))
 labels-through before r after true = all-labels (before ++ (r ∷ after))
-labels-through before r after false = within-after-skip
+labels-through before r after false = same-skip
 
--- "Case: scrutinee, then labels ..., then that arm": each arm can be chosen, by its number from 0
-pub every-arm : (c : Evaluation) (before : List Execution) (r : Execution) (after : List Execution)
-    → Within (seq (c .value) (seq (emit (choice (length before))) (seq (inOrder (labelsThrough before r after)) (r .run)))) (caseOf c (before ++ (r ∷ after)))
-every-arm c before r after =
-    let arms = before ++ (r ∷ after) in
-    within-seq within-refl
-    (within-trans (within-seq within-refl (within-seq (labels-through before r after (r .isDefault)) within-refl))
-    (rw (zero-add (length before)) at (arm-from 0 skip (allLabels arms) (hasDefault arms) before r after)))
+arm-chosen : (c : Evaluation) (before : List Execution) (r : Execution) (after : List Execution) → Same (choosesArm c before r after) (seq (c .value) (armFrom 0 skip (allLabels (before ++ (r ∷ after))) before r))
+arm-chosen c before r after = rw (zero-add (length before)) (same-seq same-refl (same-seq same-refl (same-seq (labels-through before r after (r .isDefault)) same-refl)))
 
-no-arm-from : (m : ℕ) (first all : Command) (rs : List Execution) → Within (seq (emit (choice (m + length rs))) all) (armsFrom m first all false rs)
-no-arm-from m first all [] = rw (add-zero m) within-refl
-no-arm-from m first all (r ∷ rs) =
-    let e : m + suc (length rs) ≡ suc m + length rs = omega arith in
-    rw e (within-right (no-arm-from (suc m) (seq first (inOrder (r .labels))) all rs))
+no-default : (rs : List Execution) → NoDefault rs → hasDefault rs ≡ false
+no-default [] n = refl
+no-default (r ∷ rs) n = rw (n .0) (no-default rs (n .1))
 
--- "all of them for ... no arm; no arm only where no default stands", by "the count of arms"
-pub no-arm : (c : Evaluation) (rs : List Execution) → hasDefault rs ≡ false → Within (seq (c .value) (seq (emit (choice (length rs))) (inOrder (labelsOf rs)))) (caseOf c rs)
-no-arm c rs e =
-    within-seq within-refl
-    (rw e
-    (within-trans (within-seq within-refl (all-labels rs))
-    (rw (zero-add (length rs)) at (no-arm-from 0 skip (allLabels rs) rs))))
+default-nowhere : (rs : List Execution) → hasDefault rs ≡ false → NoDefault rs
+default-nowhere [] e = tt
+default-nowhere (r ∷ rs) e = go (r .isDefault) refl e (default-nowhere rs)
+  where
+    go : (d : Bool) → r .isDefault ≡ d → d || hasDefault rs ≡ false → (hasDefault rs ≡ false → NoDefault rs) → NoDefault (r ∷ rs)
+    go true p q h = absurd (true-not-false q)
+    go false p q h = (p, h q)
+
+module _ (x : ℕ) (marks : ℕ → Bool) (s : ℕ) (cs : Forest) (es : List Evaluation) (held : List (List Evaluation)) where
+  -- the labels of an arm are all its expressions
+  pub match-labels : (body : Evaluation) (rs : List Execution) → executionOf x marks Match s cs (body ∷ es) held rs .labels ≡ es
+  match-labels body rs = refl
+
+  -- each arm can be chosen, and where no default stands, none
+  module _ (c : Evaluation) (q : Execution) where
+    abbrev caseRow : List Execution → Command
+    caseRow rs = executionOf x marks Case s cs (c ∷ es) held (q ∷ rs) .run
+
+    pub every-arm : (before : List Execution) (r : Execution) (after : List Execution) → Within (choosesArm c before r after) (caseRow (before ++ (r ∷ after)))
+    every-arm before r after =
+        let arms = before ++ (r ∷ after) in
+        within-trans (arm-chosen c before r after .forth) (within-seq within-refl (arm-among (allLabels arms) (hasDefault arms) 0 skip before r after))
+
+    pub no-arm : (rs : List Execution) → NoDefault rs → Within (choosesNone c rs) (caseRow rs)
+    no-arm rs n =
+        within-seq within-refl
+        (rw (no-default rs n)
+        (within-trans (within-seq within-refl (all-labels rs .forth)) (rw (zero-add (length rs)) at (none-among (allLabels rs) false 0 skip rs))))
+
+    -- and nothing else
+    pub only-arms : (rs : List Execution) (t : List PathEvent) (o : Ending) → Runs (caseRow rs) t o → CaseRun c rs t o
+    only-arms rs _ _ run-stop = of-scrutinee run-stop
+    only-arms rs _ _ (run-off i y) = of-scrutinee (run-off i y)
+    only-arms rs _ _ (run-seq {s = u} {t = t} {o = o} y z) = chosen (from-run (allLabels rs) (hasDefault rs) 0 skip rs t o z)
+      where
+        none : (d : Bool) → hasDefault rs ≡ d → Runs (noArm d (0 + length rs) (allLabels rs)) t o → CaseRun c rs (u ++ t) o
+        none true e w = of-scrutinee (run-seq y w)
+        none false e w = of-none (default-nowhere rs e) (run-seq y (within-seq within-refl (all-labels rs .back) .go t o (rw (zero-add (length rs)) at w)))
+
+        chosen : FromRun (allLabels rs) (hasDefault rs) 0 skip rs t o → CaseRun c rs (u ++ t) o
+        chosen (by-arm before r after e w) = of-arm before r after e (arm-chosen c before r after .back .go (u ++ t) o (run-seq y (rw e at w)))
+        chosen (by-none w) = none (hasDefault rs) refl w
+
+-- Rounds
+
+-- so many times
+abbrev pub times : ℕ → Command → Command
+times zero r = skip
+times (suc n) r = seq r (times n r)
+
+times-within : (n : ℕ) (r : Command) → Within (times n r) (star r)
+times-within zero r = record { go = go }
+  where
+    go : (t : List PathEvent) (o : Ending) → Runs skip t o → Runs (star r) t o
+    go _ _ run-stop = run-stop
+    go _ _ run-skip = run-none
+times-within (suc n) r = record { go = λ t o x. run-more (within-seq within-refl (times-within n r) .go t o x) }
+
+within-catch : {c d : Command} → Within c d → Within (catch out-of-loop c) (catch out-of-loop d)
+within-catch {c} {d} p = record { go = go }
+  where
+    go : (t : List PathEvent) (o : Ending) → Runs (catch out-of-loop c) t o → Runs (catch out-of-loop d) t o
+    go _ _ run-stop = run-stop
+    go _ _ (run-catch {s = s} {o = o} y) = run-catch (p .go s o y)
+
+-- "Loops run any number of rounds, at least one with side 1"
+module _ (head body step end : Command) (n : ℕ) where
+  pub any-rounds : Within (catch out-of-loop (seq (times n (round head body step)) end)) (loop 0 head body step end)
+  any-rounds = within-catch (within-seq (times-within n (round head body step)) within-refl)
+
+  pub one-round-and-any : Within (catch out-of-loop (seq (times (suc n) (round head body step)) end)) (loop 1 head body step end)
+  one-round-and-any = within-catch (within-trans (same-assoc .back) (within-seq within-refl (within-seq (times-within n (round head body step)) within-refl)))

@@ -1,13 +1,14 @@
 -- Which paths must exist, and which sheets meet the premises. A theorem about all paths of such sheets is true of too few of either
--- as well, so each sentence of document 01, "How a path runs", on statements has small rows here with the complete list of their
--- runs, up to a number of rounds, and each premise has rows that meet it and rows that do not.
+-- as well, so each sentence of document 01, "How a path runs", and of document 02, Paper 2, on statements has small rows here with the
+-- complete list of their runs, up to a number of rounds, and each premise has rows that meet it and rows that do not. `oracle/runs`
+-- lists them a second time.
 use mathlib.Core.Path.{_≡_, refl, ap}
 use mathlib.Core.Bool.{Bool, true, false, _&&_}
 use mathlib.Core.List.{List, [], _∷_, _++_, map}
 use Prim.Native.Nat.{ℕ, suc}
 use Prim.Native.String.{String}
 use lib.Dec.{eqb}
-use Rattle.table.specs.Rows.{nil, rest}
+use Rattle.table.specs.Rows.{Forest, nil, rest}
 use Rattle.table.specs.Fold.{fold, nth, tail}
 use Rattle.kinds.specs.Kinds.{kinds}
 use Rattle.kinds.specs.Words.{same, placeFrom, kindOf}
@@ -18,7 +19,7 @@ use Rattle.paths.specs.Commands.{PathEvent, read, write, outside, choice, falls
 use Rattle.paths.specs.Evaluation.{evaluationAt}
 use Rattle.paths.proofs.Listed.{Run, IsRun, Each, followed, eachFollowed, rounds, listed, each-imply, each-expected, loopless}
 use Rattle.paths.proofs.Strength.{Row, row, x, y, w, pathOf, lident, X, Y, W, lit, opaque, absent, not!, and!, plus, event, ident, Extent, whole, up-to, isWhole, shortened, must-list, OnlyBy, only-by}
-use Rattle.stmt_paths.specs.Execution.{heldAt, executionAt, executed, IsPath}
+use Rattle.stmt_paths.specs.Execution.{Execution, heldAt, executionAt, executed, IsPath}
 use Rattle.stmt_paths.specs.Premises.{placeOf, placedBelow, placedAt, placedTogether, placedRows, refersAt, plainAt, rowHolds, FirstFailing, nowhere, at-row, firstFalse, firstFailing, rowOf, RowPremises, Premises}
 use Rattle.stmt_paths.proofs.PremiseTest.{all-hold, fails-at}
 
@@ -176,6 +177,7 @@ orders =
     straight (assign toX X) ((read ∷ write ∷ []) ∷ []) ∷
     straight (timed (delay (X ∷ [])) absent toX lit) ((read ∷ write ∷ []) ∷ []) ∷
     straight (timed absent (intra absent (on (event X absent ∷ []))) toX lit) ((read ∷ write ∷ []) ∷ []) ∷
+    straight (timed (delay (lit ∷ lit ∷ X ∷ [])) absent toY lit) ((read ∷ []) ∷ []) ∷
     []
 
 -- "then the write if the target is the plain local"; "a select of it, or a longer path, is neither read nor written"
@@ -188,7 +190,15 @@ targets =
     straight (assign (bitOf toX Y) lit) ([] ∷ []) ∷
     straight (assign (bitOf toX X) lit) ((read ∷ []) ∷ []) ∷
     straight (assign (row "lconcat" 0 (toX ∷ toY ∷ [])) W) ((write ∷ []) ∷ []) ∷
-    straight (assign toX (and! Y X)) ((choice 1 ∷ read ∷ choice 1 ∷ write ∷ []) ∷ (choice 0 ∷ write ∷ []) ∷ (choice 1 ∷ read ∷ choice 0 ∷ write ∷ []) ∷ (choice 2 ∷ read ∷ choice 0 ∷ write ∷ []) ∷ (choice 1 ∷ read ∷ choice 2 ∷ write ∷ []) ∷ (choice 2 ∷ read ∷ choice 1 ∷ write ∷ []) ∷ (choice 2 ∷ read ∷ choice 2 ∷ write ∷ []) ∷ []) ∷
+    straight (assign toX (and! Y X))
+    ((choice 1 ∷ read ∷ choice 1 ∷ write ∷ []) ∷
+    (choice 0 ∷ write ∷ []) ∷
+    (choice 1 ∷ read ∷ choice 0 ∷ write ∷ []) ∷
+    (choice 2 ∷ read ∷ choice 0 ∷ write ∷ []) ∷
+    (choice 1 ∷ read ∷ choice 2 ∷ write ∷ []) ∷
+    (choice 2 ∷ read ∷ choice 1 ∷ write ∷ []) ∷
+    (choice 2 ∷ read ∷ choice 2 ∷ write ∷ []) ∷
+    []) ∷
     []
 
 -- "Nonblocking: right side only"
@@ -199,12 +209,20 @@ nonblockings =
     straight (timedLater (delay (X ∷ [])) (intra X (on (event X absent ∷ []))) (bitOf toY X) W) ((write ∷ []) ∷ []) ∷
     []
 
--- "A condition ... is evaluated and then is freely true or false"
+-- "A condition ... is evaluated and then is freely true or false"; if it is unknown, "`if` then takes the else side"
 abbrev ifs : List Case
 ifs =
     straight (ifElse X writes reads) ((read ∷ choice 1 ∷ write ∷ []) ∷ (read ∷ choice 0 ∷ read ∷ []) ∷ (read ∷ choice 2 ∷ read ∷ []) ∷ []) ∷
     straight (ifElse Y writes absent) ((choice 1 ∷ write ∷ []) ∷ (choice 0 ∷ []) ∷ (choice 2 ∷ []) ∷ []) ∷
-    straight (ifElse (and! Y W) null reads) ((choice 1 ∷ write ∷ choice 1 ∷ []) ∷ (choice 0 ∷ read ∷ []) ∷ (choice 1 ∷ write ∷ choice 0 ∷ read ∷ []) ∷ (choice 2 ∷ write ∷ choice 0 ∷ read ∷ []) ∷ (choice 1 ∷ write ∷ choice 2 ∷ read ∷ []) ∷ (choice 2 ∷ write ∷ choice 1 ∷ read ∷ []) ∷ (choice 2 ∷ write ∷ choice 2 ∷ read ∷ []) ∷ []) ∷
+    straight (ifElse (and! Y W) null reads)
+    ((choice 1 ∷ write ∷ choice 1 ∷ []) ∷
+    (choice 0 ∷ read ∷ []) ∷
+    (choice 1 ∷ write ∷ choice 0 ∷ read ∷ []) ∷
+    (choice 2 ∷ write ∷ choice 0 ∷ read ∷ []) ∷
+    (choice 1 ∷ write ∷ choice 2 ∷ read ∷ []) ∷
+    (choice 2 ∷ write ∷ choice 1 ∷ read ∷ []) ∷
+    (choice 2 ∷ write ∷ choice 2 ∷ read ∷ []) ∷
+    []) ∷
     []
 
 -- "Return evaluates its value and ends the path"
@@ -212,7 +230,8 @@ abbrev endings : List Case
 endings =
     rounds-to 0 (returns absent) (([], stops) ∷ []) ∷
     rounds-to 0 (block (returns X ∷ writes ∷ [])) ((read ∷ [], stops) ∷ []) ∷
-    rounds-to 0 (block (ifElse Y (returns absent) absent ∷ writes ∷ [])) ((choice 1 ∷ [], stops) ∷ (choice 0 ∷ write ∷ [], falls) ∷ (choice 2 ∷ write ∷ [], falls) ∷ []) ∷
+    rounds-to 0 (block (ifElse Y (returns absent) absent ∷ writes ∷ []))
+    ((choice 1 ∷ [], stops) ∷ (choice 0 ∷ write ∷ [], falls) ∷ (choice 2 ∷ write ∷ [], falls) ∷ []) ∷
     []
 
 -- "Case: scrutinee, then labels in row order through the chosen arm's (all of them for a default or no arm), then that arm; no arm
@@ -228,35 +247,115 @@ arms =
     ((choice 0 ∷ read ∷ write ∷ read ∷ [], falls) ∷ (choice 1 ∷ read ∷ write ∷ [], falls) ∷ (choice 2 ∷ read ∷ write ∷ write ∷ [], falls) ∷ ([], stops) ∷ []) ∷
     rounds-to 0 (caseOf W (default reads ∷ [])) ((write ∷ choice 0 ∷ read ∷ [], falls) ∷ (write ∷ [], stops) ∷ []) ∷
     straight (caseOf X []) ((read ∷ choice 0 ∷ []) ∷ []) ∷
-    rounds-to 0 (block (caseOf Y (arm (lit ∷ []) (returns X) ∷ []) ∷ writes ∷ []))
-    ((choice 0 ∷ read ∷ [], stops) ∷ (choice 1 ∷ write ∷ [], falls) ∷ []) ∷
-    rounds-to 0 (caseOf (not! Y) (arm (not! Y ∷ []) writes ∷ [])) ((choice 0 ∷ choice 0 ∷ choice 0 ∷ write ∷ [], falls) ∷ (choice 0 ∷ choice 0 ∷ choice 1 ∷ write ∷ [], falls) ∷ (choice 0 ∷ choice 0 ∷ choice 2 ∷ write ∷ [], falls) ∷ (choice 0 ∷ choice 1 ∷ choice 0 ∷ [], falls) ∷ (choice 0 ∷ choice 1 ∷ choice 1 ∷ [], falls) ∷ (choice 0 ∷ choice 1 ∷ choice 2 ∷ [], falls) ∷ (choice 1 ∷ choice 0 ∷ choice 0 ∷ write ∷ [], falls) ∷ (choice 1 ∷ choice 0 ∷ choice 1 ∷ write ∷ [], falls) ∷ (choice 1 ∷ choice 0 ∷ choice 2 ∷ write ∷ [], falls) ∷ (choice 1 ∷ choice 1 ∷ choice 0 ∷ [], falls) ∷ (choice 1 ∷ choice 1 ∷ choice 1 ∷ [], falls) ∷ (choice 1 ∷ choice 1 ∷ choice 2 ∷ [], falls) ∷ (choice 2 ∷ choice 0 ∷ choice 0 ∷ write ∷ [], falls) ∷ (choice 2 ∷ choice 0 ∷ choice 1 ∷ write ∷ [], falls) ∷ (choice 2 ∷ choice 0 ∷ choice 2 ∷ write ∷ [], falls) ∷ (choice 2 ∷ choice 1 ∷ choice 0 ∷ [], falls) ∷ (choice 2 ∷ choice 1 ∷ choice 1 ∷ [], falls) ∷ (choice 2 ∷ choice 1 ∷ choice 2 ∷ [], falls) ∷ []) ∷
+    rounds-to 0 (block (caseOf Y (arm (lit ∷ []) (returns X) ∷ []) ∷ writes ∷ [])) ((choice 0 ∷ read ∷ [], stops) ∷ (choice 1 ∷ write ∷ [], falls) ∷ []) ∷
+    straight (caseOf (not! Y) []) ((choice 0 ∷ choice 0 ∷ []) ∷ (choice 1 ∷ choice 0 ∷ []) ∷ (choice 2 ∷ choice 0 ∷ []) ∷ []) ∷
+    straight (caseOf Y (arm (not! Y ∷ []) writes ∷ []))
+    ((choice 0 ∷ choice 0 ∷ write ∷ []) ∷
+    (choice 0 ∷ choice 1 ∷ write ∷ []) ∷
+    (choice 0 ∷ choice 2 ∷ write ∷ []) ∷
+    (choice 1 ∷ choice 0 ∷ []) ∷
+    (choice 1 ∷ choice 1 ∷ []) ∷
+    (choice 1 ∷ choice 2 ∷ []) ∷
+    []) ∷
+    straight (caseOf Y (arm [] writes ∷ [])) ((choice 0 ∷ write ∷ []) ∷ (choice 1 ∷ []) ∷ []) ∷
+    straight (caseOf Y (arm (lit ∷ lit ∷ X ∷ []) null ∷ [])) ((choice 0 ∷ read ∷ []) ∷ (choice 1 ∷ read ∷ []) ∷ []) ∷
     []
 
--- "For: init, then condition, body, step in turn"; "Loops run any number of rounds, at least one with side 1"
+-- "For: init, then condition, body, step in turn"; "Loops run any number of rounds, at least one with side 1"; if the condition is
+-- unknown, "a loop ends"
 abbrev fors : List Case
 fors =
     rounds-to 2 (for 0 reads X reads writes)
-    ((read ∷ read ∷ choice 0 ∷ [], falls) ∷ (read ∷ read ∷ choice 2 ∷ [], falls) ∷ (read ∷ read ∷ choice 1 ∷ write ∷ read ∷ read ∷ choice 0 ∷ [], falls) ∷ (read ∷ read ∷ choice 1 ∷ write ∷ read ∷ read ∷ choice 2 ∷ [], falls) ∷ (read ∷ read ∷ choice 1 ∷ write ∷ read ∷ read ∷ choice 1 ∷ write ∷ read ∷ read ∷ choice 0 ∷ [], falls) ∷ (read ∷ read ∷ choice 1 ∷ write ∷ read ∷ read ∷ choice 1 ∷ write ∷ read ∷ read ∷ choice 2 ∷ [], falls) ∷ []) ∷
-    rounds-to 1 (for 0 writes Y writes reads) ((write ∷ choice 0 ∷ [], falls) ∷ (write ∷ choice 2 ∷ [], falls) ∷ (write ∷ choice 1 ∷ read ∷ write ∷ choice 0 ∷ [], falls) ∷ (write ∷ choice 1 ∷ read ∷ write ∷ choice 2 ∷ [], falls) ∷ []) ∷
+    (fall
+    ((read ∷ read ∷ choice 0 ∷ []) ∷
+    (read ∷ read ∷ choice 2 ∷ []) ∷
+    (read ∷ read ∷ choice 1 ∷ write ∷ read ∷ read ∷ choice 0 ∷ []) ∷
+    (read ∷ read ∷ choice 1 ∷ write ∷ read ∷ read ∷ choice 2 ∷ []) ∷
+    (read ∷ read ∷ choice 1 ∷ write ∷ read ∷ read ∷ choice 1 ∷ write ∷ read ∷ read ∷ choice 0 ∷ []) ∷
+    (read ∷ read ∷ choice 1 ∷ write ∷ read ∷ read ∷ choice 1 ∷ write ∷ read ∷ read ∷ choice 2 ∷ []) ∷
+    [])) ∷
+    rounds-to 1 (for 0 writes Y writes reads)
+    (fall
+    ((write ∷ choice 0 ∷ []) ∷
+    (write ∷ choice 2 ∷ []) ∷
+    (write ∷ choice 1 ∷ read ∷ write ∷ choice 0 ∷ []) ∷
+    (write ∷ choice 1 ∷ read ∷ write ∷ choice 2 ∷ []) ∷
+    [])) ∷
     rounds-to 1 (for 1 writes Y writes reads)
-    ((write ∷ choice 1 ∷ read ∷ write ∷ choice 0 ∷ [], falls) ∷ (write ∷ choice 1 ∷ read ∷ write ∷ choice 2 ∷ [], falls) ∷ (write ∷ choice 1 ∷ read ∷ write ∷ choice 1 ∷ read ∷ write ∷ choice 0 ∷ [], falls) ∷ (write ∷ choice 1 ∷ read ∷ write ∷ choice 1 ∷ read ∷ write ∷ choice 2 ∷ [], falls) ∷ []) ∷
+    (fall
+    ((write ∷ choice 1 ∷ read ∷ write ∷ choice 0 ∷ []) ∷
+    (write ∷ choice 1 ∷ read ∷ write ∷ choice 2 ∷ []) ∷
+    (write ∷ choice 1 ∷ read ∷ write ∷ choice 1 ∷ read ∷ write ∷ choice 0 ∷ []) ∷
+    (write ∷ choice 1 ∷ read ∷ write ∷ choice 1 ∷ read ∷ write ∷ choice 2 ∷ []) ∷
+    [])) ∷
+    rounds-to 2 (for 1 null Y null null)
+    (fall
+    ((choice 1 ∷ choice 0 ∷ []) ∷
+    (choice 1 ∷ choice 2 ∷ []) ∷
+    (choice 1 ∷ choice 1 ∷ choice 0 ∷ []) ∷
+    (choice 1 ∷ choice 1 ∷ choice 2 ∷ []) ∷
+    (choice 1 ∷ choice 1 ∷ choice 1 ∷ choice 0 ∷ []) ∷
+    (choice 1 ∷ choice 1 ∷ choice 1 ∷ choice 2 ∷ []) ∷
+    [])) ∷
     []
 
 -- "while asks its condition before each round, repeat its count once"; of a repeat 1 is chosen "before a round", 0 "to run no more"
 abbrev loops : List Case
 loops =
     rounds-to 2 (while 0 X writes)
-    ((read ∷ choice 0 ∷ [], falls) ∷ (read ∷ choice 2 ∷ [], falls) ∷ (read ∷ choice 1 ∷ write ∷ read ∷ choice 0 ∷ [], falls) ∷ (read ∷ choice 1 ∷ write ∷ read ∷ choice 2 ∷ [], falls) ∷ (read ∷ choice 1 ∷ write ∷ read ∷ choice 1 ∷ write ∷ read ∷ choice 0 ∷ [], falls) ∷ (read ∷ choice 1 ∷ write ∷ read ∷ choice 1 ∷ write ∷ read ∷ choice 2 ∷ [], falls) ∷ []) ∷
+    (fall
+    ((read ∷ choice 0 ∷ []) ∷
+    (read ∷ choice 2 ∷ []) ∷
+    (read ∷ choice 1 ∷ write ∷ read ∷ choice 0 ∷ []) ∷
+    (read ∷ choice 1 ∷ write ∷ read ∷ choice 2 ∷ []) ∷
+    (read ∷ choice 1 ∷ write ∷ read ∷ choice 1 ∷ write ∷ read ∷ choice 0 ∷ []) ∷
+    (read ∷ choice 1 ∷ write ∷ read ∷ choice 1 ∷ write ∷ read ∷ choice 2 ∷ []) ∷
+    [])) ∷
     rounds-to 1 (while 1 X writes)
-    ((read ∷ choice 1 ∷ write ∷ read ∷ choice 0 ∷ [], falls) ∷ (read ∷ choice 1 ∷ write ∷ read ∷ choice 2 ∷ [], falls) ∷ (read ∷ choice 1 ∷ write ∷ read ∷ choice 1 ∷ write ∷ read ∷ choice 0 ∷ [], falls) ∷ (read ∷ choice 1 ∷ write ∷ read ∷ choice 1 ∷ write ∷ read ∷ choice 2 ∷ [], falls) ∷ []) ∷
+    (fall
+    ((read ∷ choice 1 ∷ write ∷ read ∷ choice 0 ∷ []) ∷
+    (read ∷ choice 1 ∷ write ∷ read ∷ choice 2 ∷ []) ∷
+    (read ∷ choice 1 ∷ write ∷ read ∷ choice 1 ∷ write ∷ read ∷ choice 0 ∷ []) ∷
+    (read ∷ choice 1 ∷ write ∷ read ∷ choice 1 ∷ write ∷ read ∷ choice 2 ∷ []) ∷
+    [])) ∷
     rounds-to 1 (while 0 (and! Y X) null)
-    ((choice 0 ∷ [], falls) ∷ (choice 1 ∷ read ∷ choice 0 ∷ [], falls) ∷ (choice 2 ∷ read ∷ choice 0 ∷ [], falls) ∷ (choice 1 ∷ read ∷ choice 2 ∷ [], falls) ∷ (choice 2 ∷ read ∷ choice 1 ∷ [], falls) ∷ (choice 2 ∷ read ∷ choice 2 ∷ [], falls) ∷ (choice 1 ∷ read ∷ choice 1 ∷ choice 0 ∷ [], falls) ∷ (choice 1 ∷ read ∷ choice 1 ∷ choice 1 ∷ read ∷ choice 0 ∷ [], falls) ∷ (choice 1 ∷ read ∷ choice 1 ∷ choice 2 ∷ read ∷ choice 0 ∷ [], falls) ∷ (choice 1 ∷ read ∷ choice 1 ∷ choice 1 ∷ read ∷ choice 2 ∷ [], falls) ∷ (choice 1 ∷ read ∷ choice 1 ∷ choice 2 ∷ read ∷ choice 1 ∷ [], falls) ∷ (choice 1 ∷ read ∷ choice 1 ∷ choice 2 ∷ read ∷ choice 2 ∷ [], falls) ∷ []) ∷
+    (fall
+    ((choice 0 ∷ []) ∷
+    (choice 1 ∷ read ∷ choice 0 ∷ []) ∷
+    (choice 2 ∷ read ∷ choice 0 ∷ []) ∷
+    (choice 1 ∷ read ∷ choice 2 ∷ []) ∷
+    (choice 2 ∷ read ∷ choice 1 ∷ []) ∷
+    (choice 2 ∷ read ∷ choice 2 ∷ []) ∷
+    (choice 1 ∷ read ∷ choice 1 ∷ choice 0 ∷ []) ∷
+    (choice 1 ∷ read ∷ choice 1 ∷ choice 1 ∷ read ∷ choice 0 ∷ []) ∷
+    (choice 1 ∷ read ∷ choice 1 ∷ choice 2 ∷ read ∷ choice 0 ∷ []) ∷
+    (choice 1 ∷ read ∷ choice 1 ∷ choice 1 ∷ read ∷ choice 2 ∷ []) ∷
+    (choice 1 ∷ read ∷ choice 1 ∷ choice 2 ∷ read ∷ choice 1 ∷ []) ∷
+    (choice 1 ∷ read ∷ choice 1 ∷ choice 2 ∷ read ∷ choice 2 ∷ []) ∷
+    [])) ∷
     rounds-to 2 (repeat 0 X writes)
-    ((read ∷ choice 0 ∷ [], falls) ∷ (read ∷ choice 1 ∷ write ∷ choice 0 ∷ [], falls) ∷ (read ∷ choice 1 ∷ write ∷ choice 1 ∷ write ∷ choice 0 ∷ [], falls) ∷ []) ∷
-    rounds-to 1 (repeat 1 X writes)
-    ((read ∷ choice 1 ∷ write ∷ choice 0 ∷ [], falls) ∷ (read ∷ choice 1 ∷ write ∷ choice 1 ∷ write ∷ choice 0 ∷ [], falls) ∷ []) ∷
-    rounds-to 1 (repeat 0 (not! Y) writes) ((choice 0 ∷ choice 0 ∷ [], falls) ∷ (choice 0 ∷ choice 1 ∷ write ∷ choice 0 ∷ [], falls) ∷ (choice 1 ∷ choice 0 ∷ [], falls) ∷ (choice 1 ∷ choice 1 ∷ write ∷ choice 0 ∷ [], falls) ∷ (choice 2 ∷ choice 0 ∷ [], falls) ∷ (choice 2 ∷ choice 1 ∷ write ∷ choice 0 ∷ [], falls) ∷ []) ∷
+    (fall ((read ∷ choice 0 ∷ []) ∷ (read ∷ choice 1 ∷ write ∷ choice 0 ∷ []) ∷ (read ∷ choice 1 ∷ write ∷ choice 1 ∷ write ∷ choice 0 ∷ []) ∷ [])) ∷
+    rounds-to 1 (repeat 1 X writes) (fall ((read ∷ choice 1 ∷ write ∷ choice 0 ∷ []) ∷ (read ∷ choice 1 ∷ write ∷ choice 1 ∷ write ∷ choice 0 ∷ []) ∷ [])) ∷
+    rounds-to 1 (repeat 0 (not! Y) writes)
+    (fall
+    ((choice 0 ∷ choice 0 ∷ []) ∷
+    (choice 0 ∷ choice 1 ∷ write ∷ choice 0 ∷ []) ∷
+    (choice 1 ∷ choice 0 ∷ []) ∷
+    (choice 1 ∷ choice 1 ∷ write ∷ choice 0 ∷ []) ∷
+    (choice 2 ∷ choice 0 ∷ []) ∷
+    (choice 2 ∷ choice 1 ∷ write ∷ choice 0 ∷ []) ∷
+    [])) ∷
+    rounds-to 2 (while 1 Y null)
+    (fall
+    ((choice 1 ∷ choice 0 ∷ []) ∷
+    (choice 1 ∷ choice 2 ∷ []) ∷
+    (choice 1 ∷ choice 1 ∷ choice 0 ∷ []) ∷
+    (choice 1 ∷ choice 1 ∷ choice 2 ∷ []) ∷
+    (choice 1 ∷ choice 1 ∷ choice 1 ∷ choice 0 ∷ []) ∷
+    (choice 1 ∷ choice 1 ∷ choice 1 ∷ choice 2 ∷ []) ∷
+    [])) ∷
+    rounds-to 2 (repeat 1 Y null)
+    (fall ((choice 1 ∷ choice 0 ∷ []) ∷ (choice 1 ∷ choice 1 ∷ choice 0 ∷ []) ∷ (choice 1 ∷ choice 1 ∷ choice 1 ∷ choice 0 ∷ []) ∷ [])) ∷
     []
 
 -- "forever ends only by jump"
@@ -265,8 +364,13 @@ forevers =
     rounds-to 2 (forever 0 writes) (([], stops) ∷ (choice 1 ∷ write ∷ [], stops) ∷ (choice 1 ∷ write ∷ choice 1 ∷ write ∷ [], stops) ∷ []) ∷
     rounds-to 1 (forever 1 writes) ((choice 1 ∷ write ∷ [], stops) ∷ (choice 1 ∷ write ∷ choice 1 ∷ write ∷ [], stops) ∷ []) ∷
     rounds-to 1 (block (forever 1 (disable (j ∷ [])) ∷ writes ∷ []))
-    ((choice 1 ∷ choice 0 ∷ write ∷ [], falls) ∷ (choice 1 ∷ choice 1 ∷ [], stops) ∷ (choice 1 ∷ choice 1 ∷ choice 1 ∷ choice 0 ∷ write ∷ [], falls) ∷ (choice 1 ∷ choice 1 ∷ choice 1 ∷ choice 1 ∷ [], stops) ∷ []) ∷
+    ((choice 1 ∷ choice 0 ∷ write ∷ [], falls) ∷
+    (choice 1 ∷ choice 1 ∷ [], stops) ∷
+    (choice 1 ∷ choice 1 ∷ choice 1 ∷ choice 0 ∷ write ∷ [], falls) ∷
+    (choice 1 ∷ choice 1 ∷ choice 1 ∷ choice 1 ∷ [], stops) ∷
+    []) ∷
     rounds-to 1 (forever 0 (returns X)) (([], stops) ∷ (choice 1 ∷ read ∷ [], stops) ∷ []) ∷
+    rounds-to 2 (forever 1 null) ((choice 1 ∷ [], stops) ∷ (choice 1 ∷ choice 1 ∷ [], stops) ∷ (choice 1 ∷ choice 1 ∷ choice 1 ∷ [], stops) ∷ []) ∷
     []
 
 -- "A loop jump ... leaves the nearest loop or only its round, either one freely": what stands after it in the round is not run, the
@@ -274,31 +378,123 @@ forevers =
 abbrev jumps : List Case
 jumps =
     rounds-to 2 (while 0 Y (disable (j ∷ [])))
-    ((choice 0 ∷ [], falls) ∷ (choice 2 ∷ [], falls) ∷ (choice 1 ∷ choice 0 ∷ [], falls) ∷ (choice 1 ∷ choice 1 ∷ choice 0 ∷ [], falls) ∷ (choice 1 ∷ choice 1 ∷ choice 2 ∷ [], falls) ∷ (choice 1 ∷ choice 1 ∷ choice 1 ∷ choice 0 ∷ [], falls) ∷ (choice 1 ∷ choice 1 ∷ choice 1 ∷ choice 1 ∷ choice 0 ∷ [], falls) ∷ (choice 1 ∷ choice 1 ∷ choice 1 ∷ choice 1 ∷ choice 2 ∷ [], falls) ∷ []) ∷
+    (fall
+    ((choice 0 ∷ []) ∷
+    (choice 2 ∷ []) ∷
+    (choice 1 ∷ choice 0 ∷ []) ∷
+    (choice 1 ∷ choice 1 ∷ choice 0 ∷ []) ∷
+    (choice 1 ∷ choice 1 ∷ choice 2 ∷ []) ∷
+    (choice 1 ∷ choice 1 ∷ choice 1 ∷ choice 0 ∷ []) ∷
+    (choice 1 ∷ choice 1 ∷ choice 1 ∷ choice 1 ∷ choice 0 ∷ []) ∷
+    (choice 1 ∷ choice 1 ∷ choice 1 ∷ choice 1 ∷ choice 2 ∷ []) ∷
+    [])) ∷
     rounds-to 1 (for 0 null Y reads (block (disable (j ∷ []) ∷ writes ∷ [])))
-    ((choice 0 ∷ [], falls) ∷ (choice 2 ∷ [], falls) ∷ (choice 1 ∷ choice 0 ∷ [], falls) ∷ (choice 1 ∷ choice 1 ∷ read ∷ choice 0 ∷ [], falls) ∷ (choice 1 ∷ choice 1 ∷ read ∷ choice 2 ∷ [], falls) ∷ []) ∷
-    rounds-to 0 (repeat 1 Y (disable (j ∷ []))) ((choice 1 ∷ choice 0 ∷ [], falls) ∷ (choice 1 ∷ choice 1 ∷ choice 0 ∷ [], falls) ∷ []) ∷
+    (fall
+    ((choice 0 ∷ []) ∷
+    (choice 2 ∷ []) ∷
+    (choice 1 ∷ choice 0 ∷ []) ∷
+    (choice 1 ∷ choice 1 ∷ read ∷ choice 0 ∷ []) ∷
+    (choice 1 ∷ choice 1 ∷ read ∷ choice 2 ∷ []) ∷
+    [])) ∷
+    rounds-to 0 (repeat 1 Y (disable (j ∷ []))) (fall ((choice 1 ∷ choice 0 ∷ []) ∷ (choice 1 ∷ choice 1 ∷ choice 0 ∷ []) ∷ [])) ∷
     rounds-to 1 (while 0 Y (block (ifElse X (block (disable (j ∷ []) ∷ [])) absent ∷ writes ∷ [])))
-    ((choice 0 ∷ [], falls) ∷ (choice 2 ∷ [], falls) ∷ (choice 1 ∷ read ∷ choice 1 ∷ choice 0 ∷ [], falls) ∷ (choice 1 ∷ read ∷ choice 1 ∷ choice 1 ∷ choice 0 ∷ [], falls) ∷ (choice 1 ∷ read ∷ choice 1 ∷ choice 1 ∷ choice 2 ∷ [], falls) ∷ (choice 1 ∷ read ∷ choice 0 ∷ write ∷ choice 0 ∷ [], falls) ∷ (choice 1 ∷ read ∷ choice 0 ∷ write ∷ choice 2 ∷ [], falls) ∷ (choice 1 ∷ read ∷ choice 2 ∷ write ∷ choice 0 ∷ [], falls) ∷ (choice 1 ∷ read ∷ choice 2 ∷ write ∷ choice 2 ∷ [], falls) ∷ []) ∷
+    (fall
+    ((choice 0 ∷ []) ∷
+    (choice 2 ∷ []) ∷
+    (choice 1 ∷ read ∷ choice 1 ∷ choice 0 ∷ []) ∷
+    (choice 1 ∷ read ∷ choice 1 ∷ choice 1 ∷ choice 0 ∷ []) ∷
+    (choice 1 ∷ read ∷ choice 1 ∷ choice 1 ∷ choice 2 ∷ []) ∷
+    (choice 1 ∷ read ∷ choice 0 ∷ write ∷ choice 0 ∷ []) ∷
+    (choice 1 ∷ read ∷ choice 0 ∷ write ∷ choice 2 ∷ []) ∷
+    (choice 1 ∷ read ∷ choice 2 ∷ write ∷ choice 0 ∷ []) ∷
+    (choice 1 ∷ read ∷ choice 2 ∷ write ∷ choice 2 ∷ []) ∷
+    [])) ∷
     rounds-to 1 (while 0 Y (block (repeat 0 Y (disable (j ∷ [])) ∷ writes ∷ [])))
-    ((choice 0 ∷ [], falls) ∷ (choice 2 ∷ [], falls) ∷ (choice 1 ∷ choice 0 ∷ write ∷ choice 0 ∷ [], falls) ∷ (choice 1 ∷ choice 0 ∷ write ∷ choice 2 ∷ [], falls) ∷ (choice 1 ∷ choice 1 ∷ choice 0 ∷ write ∷ choice 0 ∷ [], falls) ∷ (choice 1 ∷ choice 1 ∷ choice 0 ∷ write ∷ choice 2 ∷ [], falls) ∷ (choice 1 ∷ choice 1 ∷ choice 1 ∷ choice 0 ∷ write ∷ choice 0 ∷ [], falls) ∷ (choice 1 ∷ choice 1 ∷ choice 1 ∷ choice 0 ∷ write ∷ choice 2 ∷ [], falls) ∷ []) ∷
+    (fall
+    ((choice 0 ∷ []) ∷
+    (choice 2 ∷ []) ∷
+    (choice 1 ∷ choice 0 ∷ write ∷ choice 0 ∷ []) ∷
+    (choice 1 ∷ choice 0 ∷ write ∷ choice 2 ∷ []) ∷
+    (choice 1 ∷ choice 1 ∷ choice 0 ∷ write ∷ choice 0 ∷ []) ∷
+    (choice 1 ∷ choice 1 ∷ choice 0 ∷ write ∷ choice 2 ∷ []) ∷
+    (choice 1 ∷ choice 1 ∷ choice 1 ∷ choice 0 ∷ write ∷ choice 0 ∷ []) ∷
+    (choice 1 ∷ choice 1 ∷ choice 1 ∷ choice 0 ∷ write ∷ choice 2 ∷ []) ∷
+    [])) ∷
     rounds-to 0 (disable (j ∷ [])) ((choice 0 ∷ [], leaves) ∷ (choice 1 ∷ [], again) ∷ []) ∷
     rounds-to 0 (block (disable (j ∷ []) ∷ writes ∷ [])) ((choice 0 ∷ [], leaves) ∷ (choice 1 ∷ [], again) ∷ []) ∷
-    rounds-to 1 (block (while 0 Y (returns absent) ∷ writes ∷ [])) ((choice 0 ∷ write ∷ [], falls) ∷ (choice 2 ∷ write ∷ [], falls) ∷ (choice 1 ∷ [], stops) ∷ []) ∷
-    rounds-to 1 (while 1 Y (disable (j ∷ []))) ((choice 1 ∷ choice 0 ∷ [], falls) ∷ (choice 1 ∷ choice 1 ∷ choice 0 ∷ [], falls) ∷ (choice 1 ∷ choice 1 ∷ choice 2 ∷ [], falls) ∷ (choice 1 ∷ choice 1 ∷ choice 1 ∷ choice 0 ∷ [], falls) ∷ (choice 1 ∷ choice 1 ∷ choice 1 ∷ choice 1 ∷ choice 0 ∷ [], falls) ∷ (choice 1 ∷ choice 1 ∷ choice 1 ∷ choice 1 ∷ choice 2 ∷ [], falls) ∷ []) ∷
-    rounds-to 1 (for 1 null Y reads (block (disable (j ∷ []) ∷ writes ∷ []))) ((choice 1 ∷ choice 0 ∷ [], falls) ∷ (choice 1 ∷ choice 1 ∷ read ∷ choice 0 ∷ [], falls) ∷ (choice 1 ∷ choice 1 ∷ read ∷ choice 2 ∷ [], falls) ∷ (choice 1 ∷ choice 1 ∷ read ∷ choice 1 ∷ choice 0 ∷ [], falls) ∷ (choice 1 ∷ choice 1 ∷ read ∷ choice 1 ∷ choice 1 ∷ read ∷ choice 0 ∷ [], falls) ∷ (choice 1 ∷ choice 1 ∷ read ∷ choice 1 ∷ choice 1 ∷ read ∷ choice 2 ∷ [], falls) ∷ []) ∷
-    rounds-to 1 (block (forever 0 (disable (j ∷ [])) ∷ writes ∷ [])) (([], stops) ∷ (choice 1 ∷ choice 0 ∷ write ∷ [], falls) ∷ (choice 1 ∷ choice 1 ∷ [], stops) ∷ []) ∷
-    rounds-to 1 (while 0 Y (caseOf Y (arm (lit ∷ []) (disable (j ∷ [])) ∷ default writes ∷ []))) ((choice 0 ∷ [], falls) ∷ (choice 2 ∷ [], falls) ∷ (choice 1 ∷ choice 0 ∷ choice 0 ∷ [], falls) ∷ (choice 1 ∷ choice 0 ∷ choice 1 ∷ choice 0 ∷ [], falls) ∷ (choice 1 ∷ choice 0 ∷ choice 1 ∷ choice 2 ∷ [], falls) ∷ (choice 1 ∷ choice 1 ∷ write ∷ choice 0 ∷ [], falls) ∷ (choice 1 ∷ choice 1 ∷ write ∷ choice 2 ∷ [], falls) ∷ (choice 1 ∷ [], stops) ∷ []) ∷
-    rounds-to 1 (while 0 Y (block (wait Y (disable (j ∷ [])) ∷ writes ∷ []))) ((choice 0 ∷ [], falls) ∷ (choice 2 ∷ [], falls) ∷ (choice 1 ∷ choice 1 ∷ choice 0 ∷ [], falls) ∷ (choice 1 ∷ choice 1 ∷ choice 1 ∷ choice 0 ∷ [], falls) ∷ (choice 1 ∷ choice 1 ∷ choice 1 ∷ choice 2 ∷ [], falls) ∷ (choice 1 ∷ choice 0 ∷ [], stops) ∷ (choice 1 ∷ choice 2 ∷ [], stops) ∷ []) ∷
-    rounds-to 1 (while 0 Y (block (delayed (delay (X ∷ [])) (disable (j ∷ [])) ∷ writes ∷ []))) ((choice 0 ∷ [], falls) ∷ (choice 2 ∷ [], falls) ∷ (choice 1 ∷ read ∷ choice 0 ∷ [], falls) ∷ (choice 1 ∷ read ∷ choice 1 ∷ choice 0 ∷ [], falls) ∷ (choice 1 ∷ read ∷ choice 1 ∷ choice 2 ∷ [], falls) ∷ []) ∷
-    rounds-to 1 (while 0 Y (block (awaits (on (event X absent ∷ [])) (disable (j ∷ [])) ∷ writes ∷ []))) ((choice 0 ∷ [], falls) ∷ (choice 2 ∷ [], falls) ∷ (choice 1 ∷ read ∷ choice 0 ∷ [], falls) ∷ (choice 1 ∷ read ∷ choice 1 ∷ choice 0 ∷ [], falls) ∷ (choice 1 ∷ read ∷ choice 1 ∷ choice 2 ∷ [], falls) ∷ []) ∷
+    rounds-to 1 (block (while 0 Y (returns absent) ∷ writes ∷ []))
+    ((choice 0 ∷ write ∷ [], falls) ∷ (choice 2 ∷ write ∷ [], falls) ∷ (choice 1 ∷ [], stops) ∷ []) ∷
+    rounds-to 1 (while 1 Y (disable (j ∷ [])))
+    (fall
+    ((choice 1 ∷ choice 0 ∷ []) ∷
+    (choice 1 ∷ choice 1 ∷ choice 0 ∷ []) ∷
+    (choice 1 ∷ choice 1 ∷ choice 2 ∷ []) ∷
+    (choice 1 ∷ choice 1 ∷ choice 1 ∷ choice 0 ∷ []) ∷
+    (choice 1 ∷ choice 1 ∷ choice 1 ∷ choice 1 ∷ choice 0 ∷ []) ∷
+    (choice 1 ∷ choice 1 ∷ choice 1 ∷ choice 1 ∷ choice 2 ∷ []) ∷
+    [])) ∷
+    rounds-to 1 (for 1 null Y reads (block (disable (j ∷ []) ∷ writes ∷ [])))
+    (fall
+    ((choice 1 ∷ choice 0 ∷ []) ∷
+    (choice 1 ∷ choice 1 ∷ read ∷ choice 0 ∷ []) ∷
+    (choice 1 ∷ choice 1 ∷ read ∷ choice 2 ∷ []) ∷
+    (choice 1 ∷ choice 1 ∷ read ∷ choice 1 ∷ choice 0 ∷ []) ∷
+    (choice 1 ∷ choice 1 ∷ read ∷ choice 1 ∷ choice 1 ∷ read ∷ choice 0 ∷ []) ∷
+    (choice 1 ∷ choice 1 ∷ read ∷ choice 1 ∷ choice 1 ∷ read ∷ choice 2 ∷ []) ∷
+    [])) ∷
+    rounds-to 1 (block (forever 0 (disable (j ∷ [])) ∷ writes ∷ []))
+    (([], stops) ∷ (choice 1 ∷ choice 0 ∷ write ∷ [], falls) ∷ (choice 1 ∷ choice 1 ∷ [], stops) ∷ []) ∷
+    rounds-to 1 (while 0 Y (caseOf Y (arm (lit ∷ []) (disable (j ∷ [])) ∷ default writes ∷ [])))
+    ((choice 0 ∷ [], falls) ∷
+    (choice 2 ∷ [], falls) ∷
+    (choice 1 ∷ choice 0 ∷ choice 0 ∷ [], falls) ∷
+    (choice 1 ∷ choice 0 ∷ choice 1 ∷ choice 0 ∷ [], falls) ∷
+    (choice 1 ∷ choice 0 ∷ choice 1 ∷ choice 2 ∷ [], falls) ∷
+    (choice 1 ∷ choice 1 ∷ write ∷ choice 0 ∷ [], falls) ∷
+    (choice 1 ∷ choice 1 ∷ write ∷ choice 2 ∷ [], falls) ∷
+    (choice 1 ∷ [], stops) ∷
+    []) ∷
+    rounds-to 1 (while 0 Y (block (wait Y (disable (j ∷ [])) ∷ writes ∷ [])))
+    ((choice 0 ∷ [], falls) ∷
+    (choice 2 ∷ [], falls) ∷
+    (choice 1 ∷ choice 1 ∷ choice 0 ∷ [], falls) ∷
+    (choice 1 ∷ choice 1 ∷ choice 1 ∷ choice 0 ∷ [], falls) ∷
+    (choice 1 ∷ choice 1 ∷ choice 1 ∷ choice 2 ∷ [], falls) ∷
+    (choice 1 ∷ choice 0 ∷ [], stops) ∷
+    (choice 1 ∷ choice 2 ∷ [], stops) ∷
+    []) ∷
+    rounds-to 1 (while 0 Y (block (delayed (delay (X ∷ [])) (disable (j ∷ [])) ∷ writes ∷ [])))
+    (fall
+    ((choice 0 ∷ []) ∷
+    (choice 2 ∷ []) ∷
+    (choice 1 ∷ read ∷ choice 0 ∷ []) ∷
+    (choice 1 ∷ read ∷ choice 1 ∷ choice 0 ∷ []) ∷
+    (choice 1 ∷ read ∷ choice 1 ∷ choice 2 ∷ []) ∷
+    [])) ∷
+    rounds-to 1 (while 0 Y (block (awaits (on (event X absent ∷ [])) (disable (j ∷ [])) ∷ writes ∷ [])))
+    (fall
+    ((choice 0 ∷ []) ∷
+    (choice 2 ∷ []) ∷
+    (choice 1 ∷ read ∷ choice 0 ∷ []) ∷
+    (choice 1 ∷ read ∷ choice 1 ∷ choice 0 ∷ []) ∷
+    (choice 1 ∷ read ∷ choice 1 ∷ choice 2 ∷ []) ∷
+    [])) ∷
+    rounds-to 0 (ifElse Y null (disable (j ∷ [])))
+    ((choice 1 ∷ [], falls) ∷
+    (choice 0 ∷ choice 0 ∷ [], leaves) ∷
+    (choice 0 ∷ choice 1 ∷ [], again) ∷
+    (choice 2 ∷ choice 0 ∷ [], leaves) ∷
+    (choice 2 ∷ choice 1 ∷ [], again) ∷
+    []) ∷
+    rounds-to 0 (caseOf Y (default (disable (j ∷ [])) ∷ [])) ((choice 0 ∷ choice 0 ∷ [], leaves) ∷ (choice 0 ∷ choice 1 ∷ [], again) ∷ ([], stops) ∷ []) ∷
     []
 
 -- "a disable whose path is one segment with jump mark 1": no other disable jumps
 abbrev others : List ℕ → List Case
 others ns =
     straight (disable ns) ([] ∷ []) ∷
-    rounds-to 1 (while 0 Y (block (disable ns ∷ writes ∷ []))) ((choice 0 ∷ [], falls) ∷ (choice 2 ∷ [], falls) ∷ (choice 1 ∷ write ∷ choice 0 ∷ [], falls) ∷ (choice 1 ∷ write ∷ choice 2 ∷ [], falls) ∷ []) ∷
+    rounds-to 1 (while 0 Y (block (disable ns ∷ writes ∷ [])))
+    (fall ((choice 0 ∷ []) ∷ (choice 2 ∷ []) ∷ (choice 1 ∷ write ∷ choice 0 ∷ []) ∷ (choice 1 ∷ write ∷ choice 2 ∷ []) ∷ [])) ∷
     []
 
 -- "A task with effect 1 writes, 0 does nothing, 2 and 3 read", and "effect plus 4 if it suspends"; "but a two-segment task path with
@@ -315,12 +511,14 @@ tasks e =
     straight (task (w ∷ y ∷ []) (opaque ∷ []) (e .0)) (e .1 ∷ []) ∷
     straight (task (w ∷ y ∷ []) [] (e .0)) ([] ∷ []) ∷
     straight (task (w ∷ x ∷ []) (Y ∷ ident (y ∷ x ∷ []) ∷ []) (e .0)) ([] ∷ []) ∷
+    straight (task (w ∷ y ∷ b ∷ w ∷ []) [] (e .0)) (e .1 ∷ []) ∷
+    straight (task (w ∷ y ∷ []) (lit ∷ lit ∷ X ∷ []) (e .0)) (e .1 ∷ []) ∷
     []
 
 abbrev effects : List (ℕ × List PathEvent)
 effects = (0, []) ∷ (1, write ∷ []) ∷ (2, read ∷ []) ∷ (3, read ∷ []) ∷ (4, []) ∷ (5, write ∷ []) ∷ (6, read ∷ []) ∷ (7, read ∷ []) ∷ []
 
--- "Delay, event, wait: their expressions, then the body; a wait goes on only when its expression is true"
+-- "Delay, event, wait: their expressions, then the body; a wait goes on only when its expression is true", not when it is unknown
 abbrev controls : List Case
 controls =
     straight (delayed (delay (X ∷ W ∷ [])) reads) ((read ∷ write ∷ read ∷ []) ∷ []) ∷
@@ -332,7 +530,15 @@ controls =
     rounds-to 0 (wait X writes) ((read ∷ choice 1 ∷ write ∷ [], falls) ∷ (read ∷ choice 0 ∷ [], stops) ∷ (read ∷ choice 2 ∷ [], stops) ∷ []) ∷
     rounds-to 0 (block (wait Y absent ∷ writes ∷ [])) ((choice 1 ∷ write ∷ [], falls) ∷ (choice 0 ∷ [], stops) ∷ (choice 2 ∷ [], stops) ∷ []) ∷
     rounds-to 0 (wait (and! Y X) absent)
-    ((choice 1 ∷ read ∷ choice 1 ∷ [], falls) ∷ (choice 0 ∷ [], stops) ∷ (choice 1 ∷ read ∷ choice 0 ∷ [], stops) ∷ (choice 2 ∷ read ∷ choice 0 ∷ [], stops) ∷ (choice 1 ∷ read ∷ choice 2 ∷ [], stops) ∷ (choice 2 ∷ read ∷ choice 1 ∷ [], stops) ∷ (choice 2 ∷ read ∷ choice 2 ∷ [], stops) ∷ []) ∷
+    ((choice 1 ∷ read ∷ choice 1 ∷ [], falls) ∷
+    (choice 0 ∷ [], stops) ∷
+    (choice 1 ∷ read ∷ choice 0 ∷ [], stops) ∷
+    (choice 2 ∷ read ∷ choice 0 ∷ [], stops) ∷
+    (choice 1 ∷ read ∷ choice 2 ∷ [], stops) ∷
+    (choice 2 ∷ read ∷ choice 1 ∷ [], stops) ∷
+    (choice 2 ∷ read ∷ choice 2 ∷ [], stops) ∷
+    []) ∷
+    straight (delayed (delay (lit ∷ lit ∷ X ∷ [])) absent) ((read ∷ []) ∷ []) ∷
     []
 
 -- "Block: initialisers, then statements"; "A systask evaluates its arguments; null does nothing"
@@ -345,6 +551,8 @@ sequences =
     straight (row "systask" 0 (X ∷ W ∷ Y ∷ opaque ∷ [])) ((read ∷ write ∷ read ∷ []) ∷ []) ∷
     straight (row "systask" 0 []) ([] ∷ []) ∷
     straight null ([] ∷ []) ∷
+    straight (block (decl b X ∷ writes ∷ [])) ((read ∷ write ∷ []) ∷ []) ∷
+    straight (block (decl 0 X ∷ [])) ((read ∷ []) ∷ []) ∷
     []
 
 -- "Fork counts as a read, and so do the unmodelled forms": of the kind with this word
@@ -415,9 +623,22 @@ howMany [] = 0
 howMany (true ∷ bs) = suc (howMany bs)
 howMany (false ∷ bs) = howMany bs
 
-pub loopless-cases : howMany (map (λ c. isWhole (c .extent) && loopless (commandOf c)) cases) ≡ 161
+pub loopless-cases : howMany (map (λ c. isWhole (c .extent) && loopless (commandOf c)) cases) ≡ 186
 unfolding fold evaluationAt heldAt executionAt exprClass stmtClass stmtClassIn stmtWords taskEffect numbered kindNumber kindOf placeFrom kinds same isNamed begins count segments isLocal isMarked isLoopJump inRowOrder seenBelow seenAt seen some refers loopless
 loopless-cases = refl
+
+-- Another local, the name 0, and other marks, that of the name 1
+abbrev otherLocal : List Row
+otherLocal = assign (lident (0 ∷ [])) (ident (0 ∷ [])) ∷ disable (1 ∷ []) ∷ disable (j ∷ []) ∷ task (0 ∷ 1 ∷ []) [] 3 ∷ task (x ∷ 1 ∷ []) [] 3 ∷ []
+
+pub joint-others : map (λ r. listed 0 (executed 0 (λ n. eqb n 1) (r nil))) otherLocal ≡ fall ((read ∷ write ∷ []) ∷ []) ∷ ((choice 0 ∷ [], leaves) ∷ (choice 1 ∷ [], again) ∷ []) ∷ fall ([] ∷ []) ∷ fall ((read ∷ []) ∷ []) ∷ fall ([] ∷ []) ∷ []
+unfolding fold evaluationAt heldAt executionAt exprClass stmtClass stmtClassIn stmtWords taskEffect numbered kindNumber kindOf placeFrom kinds same isNamed begins count segments isLocal isMarked isLoopJump inRowOrder seenBelow seenAt seen some refers listed eachFollowed followed rounds
+joint-others = refl
+
+-- no execution looks at a span
+pub span-unused : (local : ℕ) (jumps : ℕ → Bool) (k s lo hi : ℕ) (cs : Forest) (rs : List Execution) → executionAt local jumps k s lo hi cs rs ≡ executionAt local jumps k s 0 0 cs rs
+unfolding executionAt
+span-unused local jumps k s lo hi cs rs = refl
 
 -- The premises: the first row at which one fails
 

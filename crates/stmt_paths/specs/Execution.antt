@@ -54,7 +54,8 @@ abbrev pub hasDefault : List Execution → Bool
 hasDefault [] = false
 hasDefault (r ∷ rs) = r .isDefault || hasDefault rs
 
--- "all of them for ... no arm", which is chosen "only where no default stands"; its number is "the count of arms"
+-- "all of them for ... no arm", which is chosen "only where no default stands"; its number is "the count of arms". Where one stands,
+-- what is left is to stop, which adds no path: one "may stop anywhere"
 abbrev pub noArm : Bool → ℕ → Command → Command
 noArm true n all = exit stops
 noArm false n all = seq (emit (choice n)) all
@@ -90,12 +91,13 @@ loop s head body step end = catch out-of-loop (atLeast s (round head body step) 
 abbrev pub whileTrue : ℕ → Evaluation → Command → Command → Command
 whileTrue s c body step = loop s (c .truth is-true) body step (unmet c)
 
--- "repeat and forever give 1 before a round, or repeat 0 to run no more"; "forever ends only by jump" (12.7.2, 12.7.6)
+-- "repeat and forever give 1 before a round, or repeat 0 to run no more"; "forever ends only by jump" (12.7.2, 12.7.6), and so stops
+-- after its rounds, as a path may anywhere
 abbrev pub repeated : ℕ → Command → Command → Command
 repeated s body end = loop s (emit (choice 1)) body skip end
 
--- "leaves the nearest loop or only its round, either one freely, since the mark doesn't tell which" (12.8); any other disable falls
--- through, outside the premises (9.6.2)
+-- "leaves the nearest loop or only its round, either one freely, since the mark doesn't tell which" (12.8); any other disable does
+-- nothing here, where 9.6.2 leaves a block or a task: the premises leave it out
 abbrev pub jump : Bool → Command
 jump true = alt (seq (emit (choice 0)) (exit leaves)) (seq (emit (choice 1)) (exit again))
 jump false = skip
@@ -146,7 +148,7 @@ executionOf x marks Unmodelled s cs es held rs = plain (emit outside)
 executionOf x marks Absent s cs es held rs = noExecution
 executionOf x marks NoStmt s cs es held rs = noExecution
 
--- the evaluations of what a row holds
+-- the evaluations of what a row holds: of a delay's, those of its expressions
 unfoldable pub heldAt : ℕ → Alg (List Evaluation)
 heldAt x k s lo hi cs held = evaluations x cs
 

@@ -64,10 +64,15 @@ impl Generator {
         Some(planned * 1_000_003 % self.planned())
     }
 
+    /// Of each six sheets, two are damaged.
+    pub fn is_damaged(number: usize) -> bool {
+        number % 6 < 2
+    }
+
     /// The sheet of this number. Of each six, two are damaged, two are the plan's next, as long as there are any, and two grow at random.
     pub fn sheet(&self, number: usize) -> Made {
         let mut random = Random::new(self.seed, number as u64);
-        if number % 6 < 2 {
+        if Generator::is_damaged(number) {
             return self.damaged(&mut random, number / 6 * 2 + number % 6);
         }
         match self.plan_number(number) {

@@ -1,0 +1,84 @@
+//! Lists of runs, put together from those of the parts.
+//!
+//! The order of a list is part of what is compared: what comes first in a sequence tells first, a round less comes before a round more.
+
+use crate::path::{Ending, Event, Run};
+use crate::random::Random;
+use std::cell::RefCell;
+
+/// Puts lists together; those that are to be sampled hold no more than so many runs.
+pub struct Lists {
+    sample: Option<(usize, RefCell<Random>)>,
+}
+
+/// The one run without events.
+pub fn nothing() -> Vec<Run> {
+    vec![Run { events: Vec::new(), ending: Ending::Falls }]
+}
+
+/// The one run with this event.
+pub fn one(event: Event) -> Vec<Run> {
+    vec![Run { events: vec![event], ending: Ending::Falls }]
+}
+
+/// The one run that goes no further.
+pub fn stop() -> Vec<Run> {
+    vec![Run { events: Vec::new(), ending: Ending::Stops }]
+}
+
+/// The runs, of which those that end so fall.
+pub fn caught(ending: Ending, mut runs: Vec<Run>) -> Vec<Run> {
+    runs.iter_mut().filter(|run| run.ending == ending).for_each(|run| run.ending = Ending::Falls);
+    runs
+}
+
+impl Lists {
+    pub fn whole() -> Lists {
+        Lists { sample: None }
+    }
+
+    pub fn sampled(most: usize, random: Random) -> Lists {
+        Lists { sample: Some((most, RefCell::new(random))) }
+    }
+
+    /// The list, or as many of it as a sample may hold, in its order.
+    fn kept<T>(&self, mut list: Vec<T>) -> Vec<T> {
+        if let Some((most, random)) = &self.sample {
+            while list.len() > *most {
+                list.remove(random.borrow_mut().below(list.len()));
+            }
+        }
+        list
+    }
+
+    /// One list or another.
+    pub fn either(&self, lists: impl IntoIterator<Item = Vec<Run>>) -> Vec<Run> {
+        self.kept(lists.into_iter().flatten().collect())
+    }
+
+    /// After each run that falls every run of the second list; what does not fall goes no further.
+    pub fn then(&self, first: &[Run], second: &[Run]) -> Vec<Run> {
+        let mut pairs: Vec<(&Run, Option<&Run>)> = Vec::new();
+        for run in first {
+            match run.ending {
+                Ending::Falls => pairs.extend(second.iter().map(|after| (run, Some(after)))),
+                _ => pairs.push((run, None)),
+            }
+        }
+        self.kept(pairs).into_iter().map(|(run, after)| after.map_or_else(|| run.clone(), |after| followed(run, after))).collect()
+    }
+
+    /// One after the other.
+    pub fn in_turn(&self, lists: impl IntoIterator<Item = Vec<Run>>) -> Vec<Run> {
+        lists.into_iter().fold(nothing(), |before, list| self.then(&before, &list))
+    }
+
+    /// At most so many rounds: none, or one and then the others.
+    pub fn rounds(&self, most: usize, round: &[Run]) -> Vec<Run> {
+        (0..most).fold(nothing(), |more, _| self.either([nothing(), self.then(round, &more)]))
+    }
+}
+
+fn followed(run: &Run, after: &Run) -> Run {
+    Run { events: [&run.events[..], &after.events[..]].concat(), ending: after.ending }
+}
