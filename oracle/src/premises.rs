@@ -1,4 +1,4 @@
-//! Document 01's premises on rows, read a second time: those under which an accepted sheet reads nothing unwritten.
+//! The premises of the acceptance rule (demand 3) on rows, read a second time, with document 01's words for them.
 
 use crate::path::Table;
 use crate::runs::view::View;

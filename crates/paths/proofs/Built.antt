@@ -3,7 +3,7 @@
 -- nothing.
 use mathlib.Core.Path.{_≡_, refl, sym, _∙_}
 use mathlib.Core.Bool.{Bool, true, false, cond, _||_}
-use mathlib.Core.List.{List, [], _∷_, _++_}
+use mathlib.Core.List.{List, [], _∷_}
 use Prim.Native.Nat.{ℕ, zero, suc}
 use lib.Dec.{eqb}
 use Rattle.table.specs.Rows.{Forest, nil, node}
@@ -22,6 +22,7 @@ use Rattle.paths.specs.Evaluation.{Truth, is-true, is-false, is-unknown,
 use Rattle.paths.specs.Evaluates.{Evaluates, AllEvaluate, no-more, one-more}
 use Rattle.paths.specs.Silence.{NotRead, Silent, ReadsNothing}
 use Rattle.paths.proofs.Rules.{good-full, good-silent}
+use Rattle.paths.proofs.Listed.{each-append}
 
 -- Commands
 
@@ -42,16 +43,12 @@ never-jumps (of-seq b d) (run-off i x) = never-jumps b x
 never-jumps (of-alt b d) (run-left x) = never-jumps b x
 never-jumps (of-alt b d) (run-right x) = never-jumps d x
 
-silent-append : (s t : List PathEvent) → Silent s → Silent t → Silent (s ++ t)
-silent-append [] t h k = k
-silent-append (e ∷ s) t h k = (h .0, silent-append s t (h .1) k)
-
 silent-run : {c : Command} {t : List PathEvent} {o : Ending} → Built NotRead c → Runs c t o → Silent t
 silent-run b run-stop = tt
 silent-run of-skip run-skip = tt
 silent-run (of-emit p) run-emit = (p, tt)
 silent-run (of-emit p) run-emit-stop = (p, tt)
-silent-run (of-seq b d) (run-seq {s = s} {t = t} x y) = silent-append s t (silent-run b x) (silent-run d y)
+silent-run (of-seq b d) (run-seq {s = s} {t = t} x y) = each-append NotRead s t (silent-run b x) (silent-run d y)
 silent-run (of-seq b d) (run-off i x) = silent-run b x
 silent-run (of-alt b d) (run-left x) = silent-run b x
 silent-run (of-alt b d) (run-right x) = silent-run d x

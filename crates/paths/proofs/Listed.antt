@@ -5,6 +5,7 @@ use mathlib.Core.List.{List, [], _∷_, _++_, map}
 use Rattle.table.specs.Fold.{nth, tail}
 use Rattle.kinds.proofs.Below.{both-true, true-not-false}
 use Prim.Native.Nat.{ℕ, zero, suc}
+use Rattle.paths.specs.Each.{Each}
 use Rattle.paths.specs.Commands.{PathEvent, Ending, falls, stops, leaves, again, Jump, out-of-loop, out-of-round, Command, skip, emit, exit, seq, alt, star, catch, caught, Elsewhere, Runs, run-stop, run-skip, run-emit, run-emit-stop, run-exit, run-seq, run-off, run-left, run-right, run-none, run-more, run-catch}
 
 -- what happens, and how it ends
@@ -13,10 +14,6 @@ Run = List PathEvent × Ending
 
 abbrev pub IsRun : Command → Run → Type 0
 IsRun c r = Runs c (r .0) (r .1)
-
-abbrev pub Each : {A : Type 0} → (A → Type 0) → List A → Type 0
-Each P [] = Unit
-Each P (x ∷ xs) = P x × Each P xs
 
 -- what stands next is run after a run that falls
 unfoldable pub followed : List PathEvent → Ending → List Run → List Run
@@ -48,9 +45,13 @@ listed n (catch j c) = map (λ r. (r .0, caught j (r .1))) (listed n c)
 -- Each is a run
 
 module _ {A : Type 0} where
-  each-append : (P : A → Type 0) (xs ys : List A) → Each P xs → Each P ys → Each P (xs ++ ys)
+  pub each-append : (P : A → Type 0) (xs ys : List A) → Each P xs → Each P ys → Each P (xs ++ ys)
   each-append P [] ys h k = k
   each-append P (x ∷ xs) ys h k = (h .0, each-append P xs ys (h .1) k)
+
+  pub each-parts : (P : A → Type 0) (xs ys : List A) → Each P (xs ++ ys) → Each P xs × Each P ys
+  each-parts P [] ys h = (tt, h)
+  each-parts P (x ∷ xs) ys h = let k = each-parts P xs ys (h .1) in ((h .0, k .0), k .1)
 
   pub each-imply : (P Q : A → Type 0) → ((x : A) → P x → Q x) → (xs : List A) → Each P xs → Each Q xs
   each-imply P Q f [] h = tt

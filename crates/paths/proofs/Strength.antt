@@ -18,7 +18,8 @@ use Rattle.reads.specs.Iffs.{iffHere, every, iffAt, iffQuiet}
 use Rattle.paths.specs.Commands.{PathEvent, read, write, choice, Ending, falls, stops, leaves, again, out-of-loop, out-of-round, Command, emit, exit, seq, star, catch, Runs}
 use Rattle.paths.specs.Evaluation.{Truth, is-true, is-false, is-unknown, Evaluation, noEvaluation, evaluationAt, evaluations}
 use Rattle.paths.proofs.Prefixes.{prefix}
-use Rattle.paths.proofs.Listed.{Run, IsRun, Each, followed, eachFollowed, rounds, listed, each-map, listed-run, each-expected, loopless, Settled, Among, all-listed}
+use Rattle.paths.specs.Each.{Each}
+use Rattle.paths.proofs.Listed.{Run, IsRun, followed, eachFollowed, rounds, listed, each-map, listed-run, each-expected, loopless, Settled, Among, all-listed}
 
 -- Rows
 

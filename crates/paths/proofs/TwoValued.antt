@@ -4,28 +4,30 @@ use mathlib.Core.Logic.{⊎-elim}
 use mathlib.Core.List.{List}
 use Rattle.paths.specs.Commands.{PathEvent, falls, seq, Runs, run-seq, run-left, run-right}
 use Rattle.paths.specs.Evaluation.{Truth, is-true, is-false, is-unknown, opposite, Evaluation, asked, notFalse, notTrue, both, either, conditional}
-use Rattle.paths.specs.Unknown.{Every, Known, UnknownLaw, ShortCircuits, by-left, by-right, TakesOneArm, first-arm, second-arm}
-use Rattle.paths.proofs.Unknown.{every-parts, BothFall, parts, both-fall, one-falls, unknown-not, unknown-and}
+use Rattle.paths.specs.Each.{Each}
+use Rattle.paths.specs.Unknown.{NotUnknown, UnknownLaw, ShortCircuits, by-left, by-right, TakesOneArm, first-arm, second-arm}
+use Rattle.paths.proofs.Listed.{each-parts}
+use Rattle.paths.proofs.Unknown.{BothFall, parts, both-fall, one-falls, unknown-not, unknown-and}
 
 -- the else side is taken, a loop ends and a wait does not go on after false
-pub not-true-is-false : {e : Evaluation} → UnknownLaw e → (t : List PathEvent) → Every Known t → Runs (notTrue e) t falls → Runs (e .truth is-false) t falls
+pub not-true-is-false : {e : Evaluation} → UnknownLaw e → (t : List PathEvent) → Each NotUnknown t → Runs (notTrue e) t falls → Runs (e .truth is-false) t falls
 not-true-is-false h t q x = ⊎-elim (λ y. y) (λ y. absurd (h .by-choice t q y)) (one-falls t x)
 
-not-false-is-true : {e : Evaluation} → UnknownLaw e → (t : List PathEvent) → Every Known t → Runs (notFalse e) t falls → Runs (e .truth is-true) t falls
+not-false-is-true : {e : Evaluation} → UnknownLaw e → (t : List PathEvent) → Each NotUnknown t → Runs (notFalse e) t falls → Runs (e .truth is-true) t falls
 not-false-is-true h t q x = ⊎-elim (λ y. y) (λ y. absurd (h .by-choice t q y)) (one-falls t x)
 
 -- &&
 
 module _ {l r : Evaluation} (h : UnknownLaw l) (k : UnknownLaw r) where
-  pub and-short-circuits : (o : Truth) (t : List PathEvent) → Every Known t → Runs (both l r o) t falls → ShortCircuits is-false l r o t
+  pub and-short-circuits : (o : Truth) (t : List PathEvent) → Each NotUnknown t → Runs (both l r o) t falls → ShortCircuits is-false l r o t
   and-short-circuits is-true t q x = go t (both-fall t x)
     where
       go : (t : List PathEvent) → BothFall (l .truth is-true) (r .truth is-true) t → ShortCircuits is-false l r is-true t
       go _ (parts y z) = by-right y z
   and-short-circuits is-false t q x = ⊎-elim by-left (λ y. go t q (both-fall t y)) (one-falls t x)
     where
-      go : (t : List PathEvent) → Every Known t → BothFall (notFalse l) (r .truth is-false) t → ShortCircuits is-false l r is-false t
-      go _ q (parts {s = s} {t = u} y z) = by-right (not-false-is-true h s (every-parts Known s u q .0) y) z
+      go : (t : List PathEvent) → Each NotUnknown t → BothFall (notFalse l) (r .truth is-false) t → ShortCircuits is-false l r is-false t
+      go _ q (parts {s = s} {t = u} y z) = by-right (not-false-is-true h s (each-parts NotUnknown s u q .0) y) z
   and-short-circuits is-unknown t q x = absurd (unknown-and h k .by-choice t q x)
 
 module _ {l r : Evaluation} where
@@ -45,7 +47,7 @@ module _ {l r : Evaluation} where
   uninvert (by-left x) = by-left x
   uninvert (by-right x y) = by-right x y
 
-  pub or-short-circuits : UnknownLaw l → UnknownLaw r → (o : Truth) (t : List PathEvent) → Every Known t → Runs (either l r o) t falls → ShortCircuits is-true l r o t
+  pub or-short-circuits : UnknownLaw l → UnknownLaw r → (o : Truth) (t : List PathEvent) → Each NotUnknown t → Runs (either l r o) t falls → ShortCircuits is-true l r o t
   or-short-circuits h k is-true t q x = uninvert (and-short-circuits (unknown-not h) (unknown-not k) is-false t q x)
   or-short-circuits h k is-false t q x = uninvert (and-short-circuits (unknown-not h) (unknown-not k) is-true t q x)
   or-short-circuits h k is-unknown t q x = uninvert (and-short-circuits (unknown-not h) (unknown-not k) is-unknown t q x)
@@ -59,7 +61,7 @@ module _ {l r : Evaluation} where
 -- a conditional expression
 
 module _ {c a b : Evaluation} where
-  pub conditional-takes-one-arm : UnknownLaw c → (t : List PathEvent) → Every Known t → Runs (conditional c a b) t falls → TakesOneArm c a b t
+  pub conditional-takes-one-arm : UnknownLaw c → (t : List PathEvent) → Each NotUnknown t → Runs (conditional c a b) t falls → TakesOneArm c a b t
   conditional-takes-one-arm h t q x = ⊎-elim (λ y. first t (both-fall t y)) (λ y. ⊎-elim (λ z. second t (both-fall t z)) (λ z. neither t q (both-fall t z)) (one-falls t y)) (one-falls t x)
     where
       first : (t : List PathEvent) → BothFall (c .truth is-true) (a .value) t → TakesOneArm c a b t
@@ -68,8 +70,8 @@ module _ {c a b : Evaluation} where
       second : (t : List PathEvent) → BothFall (c .truth is-false) (b .value) t → TakesOneArm c a b t
       second _ (parts y z) = second-arm y z
 
-      neither : (t : List PathEvent) → Every Known t → BothFall (c .truth is-unknown) (seq (a .value) (b .value)) t → TakesOneArm c a b t
-      neither _ q (parts {s = s} {t = u} y z) = absurd (h .by-choice s (every-parts Known s u q .0) y)
+      neither : (t : List PathEvent) → Each NotUnknown t → BothFall (c .truth is-unknown) (seq (a .value) (b .value)) t → TakesOneArm c a b t
+      neither _ q (parts {s = s} {t = u} y z) = absurd (h .by-choice s (each-parts NotUnknown s u q .0) y)
 
   pub one-arm-taken : {t : List PathEvent} → TakesOneArm c a b t → Runs (conditional c a b) t falls
   one-arm-taken (first-arm x y) = run-left (run-seq x y)

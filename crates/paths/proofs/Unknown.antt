@@ -13,18 +13,11 @@ use Rattle.kinds.specs.declared.ExprClass.the-variants.{Ident, Call, Lident, Op
 use Rattle.kinds.specs.Named.{exprClass}
 use Rattle.paths.specs.Commands.{PathEvent, choice, falls, Command, emit, seq, alt, Runs, run-emit, run-seq, run-off, run-left, run-right}
 use Rattle.paths.specs.Evaluation.{is-true, is-unknown, opposite, Evaluation, free, asked, notFalse, both, either, noEvaluation, evaluationOf, evaluationAt, evaluations}
-use Rattle.paths.specs.Unknown.{Every, IsChoice, Known, Idles, UnknownLaw}
+use Rattle.paths.specs.Each.{Each}
+use Rattle.paths.specs.Unknown.{IsChoice, NotUnknown, Idles, UnknownLaw}
+use Rattle.paths.proofs.Listed.{each-append, each-parts}
 
--- Lists of events, and runs that fall
-
-module _ (P : PathEvent → Type 0) where
-  every-append : (s t : List PathEvent) → Every P s → Every P t → Every P (s ++ t)
-  every-append [] t h k = k
-  every-append (e ∷ s) t h k = (h .0, every-append s t (h .1) k)
-
-  pub every-parts : (s t : List PathEvent) → Every P (s ++ t) → Every P s × Every P t
-  every-parts [] t h = (tt, h)
-  every-parts (e ∷ s) t h = let k = every-parts s t (h .1) in ((h .0, k .0), k .1)
+-- Runs that fall
 
 -- of two commands one after the other both have fallen
 pub data BothFall (c d : Command) : List PathEvent → Type 0 where
@@ -43,7 +36,7 @@ one-falls t (run-right x) = inr x
 
 module _ {c d : Command} where
   idles-then : Idles c → Idles d → Idles (seq c d)
-  idles-then p q = record { events = p .events ++ q .events; idle = every-append IsChoice (p .events) (q .events) (p .idle) (q .idle); runs = run-seq (p .runs) (q .runs) }
+  idles-then p q = record { events = p .events ++ q .events; idle = each-append IsChoice (p .events) (q .events) (p .idle) (q .idle); runs = run-seq (p .runs) (q .runs) }
 
   idles-left : Idles c → Idles (alt c d)
   idles-left p = record { events = p .events; idle = p .idle; runs = run-left (p .runs) }
@@ -54,9 +47,9 @@ module _ {c d : Command} where
   idle-parts : Idles (seq c d) → Idles c × Idles d
   idle-parts p = go (p .events) (p .idle) (both-fall (p .events) (p .runs))
     where
-      go : (t : List PathEvent) → Every IsChoice t → BothFall c d t → Idles c × Idles d
+      go : (t : List PathEvent) → Each IsChoice t → BothFall c d t → Idles c × Idles d
       go _ i (parts {s = s} {t = t} x y) =
-          let h = every-parts IsChoice s t i in
+          let h = each-parts IsChoice s t i in
           (record { events = s; idle = h .0; runs = x }, record { events = t; idle = h .1; runs = y })
 
   one-idles : Idles (alt c d) → Idles c ⊎ Idles d
@@ -73,8 +66,8 @@ chosen n = record { events = choice n ∷ []; idle = (tt, tt); runs = run-emit }
 unknown-free : {c : Command} → UnknownLaw (free c)
 unknown-free {c} = record { as-true = λ p. idles-then (idle-parts p .0) (chosen 1); as-false = λ p. idles-then (idle-parts p .0) (chosen 0); by-choice = λ t k x. go t k (both-fall t x) }
   where
-    go : (t : List PathEvent) → Every Known t → BothFall c (emit (choice 2)) t → ⊥
-    go _ k (parts {s = s} x run-emit) = every-parts Known s (choice 2 ∷ []) k .1 .0 refl
+    go : (t : List PathEvent) → Each NotUnknown t → BothFall c (emit (choice 2)) t → ⊥
+    go _ k (parts {s = s} x run-emit) = each-parts NotUnknown s (choice 2 ∷ []) k .1 .0 refl
 
 pub unknown-not : {e : Evaluation} → UnknownLaw e → UnknownLaw (asked (λ t. e .truth (opposite t)))
 unknown-not h = record { as-true = h .as-false; as-false = h .as-true; by-choice = h .by-choice }
@@ -83,14 +76,14 @@ module _ {l r : Evaluation} (h : UnknownLaw l) (k : UnknownLaw r) where
   right-true : Idles (notFalse r) → Idles (r .truth is-true)
   right-true q = ⊎-elim (λ p. p) (k .as-true) (one-idles q)
 
-  and-by-choice : (t : List PathEvent) → Every Known t → Runs (both l r is-unknown) t falls → ⊥
+  and-by-choice : (t : List PathEvent) → Each NotUnknown t → Runs (both l r is-unknown) t falls → ⊥
   and-by-choice t q x = ⊎-elim (λ y. in-right t q (both-fall t y)) (λ y. in-left t q (both-fall t y)) (one-falls t x)
     where
-      in-right : (t : List PathEvent) → Every Known t → BothFall (l .truth is-true) (r .truth is-unknown) t → ⊥
-      in-right _ q (parts {s = s} {t = t} x y) = k .by-choice t (every-parts Known s t q .1) y
+      in-right : (t : List PathEvent) → Each NotUnknown t → BothFall (l .truth is-true) (r .truth is-unknown) t → ⊥
+      in-right _ q (parts {s = s} {t = t} x y) = k .by-choice t (each-parts NotUnknown s t q .1) y
 
-      in-left : (t : List PathEvent) → Every Known t → BothFall (l .truth is-unknown) (notFalse r) t → ⊥
-      in-left _ q (parts {s = s} {t = t} x y) = h .by-choice s (every-parts Known s t q .0) x
+      in-left : (t : List PathEvent) → Each NotUnknown t → BothFall (l .truth is-unknown) (notFalse r) t → ⊥
+      in-left _ q (parts {s = s} {t = t} x y) = h .by-choice s (each-parts NotUnknown s t q .0) x
 
   pub unknown-and : UnknownLaw (asked (both l r))
   unknown-and = record {
@@ -106,7 +99,7 @@ module _ {l r : Evaluation} (h : UnknownLaw l) (k : UnknownLaw r) where
 unknown-or : {l r : Evaluation} → UnknownLaw l → UnknownLaw r → UnknownLaw (asked (either l r))
 unknown-or h k = let n = unknown-and (unknown-not h) (unknown-not k) in record { as-true = n .as-false; as-false = n .as-true; by-choice = n .by-choice }
 
--- Every row
+-- Each row
 
 data AllUnknownLaw : List Evaluation → Type 0 where
   none-left : AllUnknownLaw []

@@ -1,3 +1,4 @@
+pub mod Each
 pub mod Marks
 pub mod Commands
 pub mod Triples

@@ -1,5 +1,6 @@
 -- What reads nothing: no event of any run is a read, or counts as one. Definitions only.
-use mathlib.Core.List.{List, [], _∷_}
+use mathlib.Core.List.{List}
+use Rattle.paths.specs.Each.{Each}
 use Rattle.paths.specs.Commands.{PathEvent, read, write, outside, choice, Ending, Command, Runs}
 use Rattle.paths.specs.Evaluation.{Evaluation, Truth}
 
@@ -12,8 +13,7 @@ NotRead (choice n) = Unit
 
 -- no event of the list is
 abbrev pub Silent : List PathEvent → Type 0
-Silent [] = Unit
-Silent (e ∷ t) = NotRead e × Silent t
+Silent = Each NotRead
 
 -- on every run of the command
 pub record NeverReads (c : Command) : Type 0 where

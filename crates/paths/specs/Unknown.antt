@@ -1,13 +1,9 @@
 -- What is so of a truth that comes out unknown (document 02, Paper 2). Definitions only.
 use mathlib.Core.Path.{_≡_}
-use mathlib.Core.List.{List, [], _∷_, _++_}
+use mathlib.Core.List.{List, _++_}
+use Rattle.paths.specs.Each.{Each}
 use Rattle.paths.specs.Commands.{PathEvent, read, write, outside, choice, falls, Command, Runs}
 use Rattle.paths.specs.Evaluation.{Truth, is-true, is-false, is-unknown, choiceOf, opposite, Evaluation}
-
--- P is so of each event of the list
-abbrev pub Every : (PathEvent → Type 0) → List PathEvent → Type 0
-Every P [] = Unit
-Every P (e ∷ t) = P e × Every P t
 
 -- neither a read nor a write of the local
 abbrev pub IsChoice : PathEvent → Type 0
@@ -17,23 +13,23 @@ IsChoice write = ⊥
 IsChoice (choice n) = Unit
 
 -- no truth that is unknown; every choice of an evaluation is a truth
-abbrev pub Known : PathEvent → Type 0
-Known read = Unit
-Known outside = Unit
-Known write = Unit
-Known (choice n) = n ≡ choiceOf is-unknown → ⊥
+abbrev pub NotUnknown : PathEvent → Type 0
+NotUnknown read = Unit
+NotUnknown outside = Unit
+NotUnknown write = Unit
+NotUnknown (choice n) = n ≡ choiceOf is-unknown → ⊥
 
 -- some run of the command falls, and neither reads nor writes
 pub record Idles (c : Command) : Type 0 where
   pub events : List PathEvent
-  pub idle : Every IsChoice events
+  pub idle : Each IsChoice events
   pub runs : Runs c events falls
 
 -- what comes out unknown with choices alone can come out true so, and false; and it comes out unknown by an unknown choice only
 pub record UnknownLaw (e : Evaluation) : Type 0 where
   pub as-true : Idles (e .truth is-unknown) → Idles (e .truth is-true)
   pub as-false : Idles (e .truth is-unknown) → Idles (e .truth is-false)
-  pub by-choice : (t : List PathEvent) → Every Known t → Runs (e .truth is-unknown) t falls → ⊥
+  pub by-choice : (t : List PathEvent) → Each NotUnknown t → Runs (e .truth is-unknown) t falls → ⊥
 
 -- Document 01's sentence on && (settled by false) and || (settled by true): "&& is false after a false left; || is true after a true
 -- left; otherwise, and only then, the right is evaluated and gives the truth".

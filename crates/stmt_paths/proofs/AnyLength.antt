@@ -13,7 +13,7 @@ use Rattle.kinds.specs.declared.StmtClass.the-variants.{Match, Case, Block, Sys
 use Rattle.paths.specs.Commands.{PathEvent, Ending, stops, choice, out-of-loop, Command, skip, emit, exit, seq, star, catch, Runs, run-stop, run-skip, run-seq, run-off, run-left, run-right, run-none, run-more, run-catch}
 use Rattle.paths.specs.Evaluation.{Evaluation, inOrder}
 use Rattle.kinds.proofs.Below.{true-not-false}
-use Rattle.paths.proofs.Listed.{Each}
+use Rattle.paths.specs.Each.{Each}
 use Rattle.paths.proofs.Within.{Within, within-refl, within-trans, within-seq, within-left, within-right, Same, same-refl, same-trans, same-seq, same-skip, same-assoc}
 use Rattle.paths.proofs.AnyLength.{each-in-turn, every-child}
 use Rattle.stmt_paths.specs.Execution.{Execution, oneByOne, hasDefault, noArm, allLabels, armsFrom, round, loop, executionOf}

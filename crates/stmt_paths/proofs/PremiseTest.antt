@@ -3,7 +3,7 @@
 use mathlib.Core.Path.{_≡_, refl, sym, _∙_}
 use mathlib.Core.Logic.{_⊎_, inl, inr, ⊎-elim}
 use mathlib.Core.Bool.{Bool, true, false, cond, _&&_, _||_, not}
-use mathlib.Core.List.{List, [], _∷_, _++_, map}
+use mathlib.Core.List.{List, [], _∷_, map}
 use Prim.Native.Nat.{ℕ, zero, suc, _+_, _<_}
 use Prim.Native.String.{String}
 use native.Mathlib.Omega.{arith}
@@ -22,7 +22,8 @@ use Rattle.reads.specs.declared.Iff.the-variants.{Held}
 use Rattle.reads.specs.PathRows.{isLoopJump}
 use Rattle.reads.specs.Mentions.{roleOf, hasIff, refers}
 use Rattle.reads.specs.Iffs.{iffHere, every, iffAt, iffQuiet}
-use Rattle.paths.proofs.Listed.{Each}
+use Rattle.paths.specs.Each.{Each}
+use Rattle.paths.proofs.Listed.{each-parts}
 use Rattle.stmt_paths.specs.Premises.{Place, PlacedRow, placeOf, placedBelow, placedAt, placedTogether, placedRows, inLoopBody, inInitOrStep, refersEach, plainEach, nonblockingHolds, rowHolds, nowhere, at-row, firstFalse, firstFailing, noRow, rowOf, IsA, RowPremises, Premises}
 
 -- One row
@@ -259,11 +260,6 @@ module _ {A : Type 0} (P : A → Type 0) where
   each-at : (d : A) (xs : List A) → ((n : ℕ) → P (nth d n xs)) → Each P xs
   each-at d [] h = tt
   each-at d (x ∷ xs) h = (h 0, each-at d xs (λ n. h (suc n)))
-
-  -- of each of both parts
-  each-parts : (xs ys : List A) → Each P (xs ++ ys) → Each P xs × Each P ys
-  each-parts [] ys h = (tt, h)
-  each-parts (x ∷ xs) ys h = let p = each-parts xs ys (h .1) in ((h .0, p .0), p .1)
 
 module _ (x : ℕ) where
   -- the test of the iffs passes where it does at a row and at each row below it, wherever they stand

@@ -17,7 +17,8 @@ use Rattle.reads.specs.PathRows.{isNamed, begins, count, segments, isLocal, isM
 use Rattle.reads.specs.Mentions.{inRowOrder, seenBelow, seenAt, seen, some, refers}
 use Rattle.paths.specs.Commands.{PathEvent, read, write, outside, choice, falls, stops, leaves, again, Command}
 use Rattle.paths.specs.Evaluation.{evaluationAt}
-use Rattle.paths.proofs.Listed.{Run, IsRun, Each, followed, eachFollowed, rounds, listed, each-imply, each-expected, loopless}
+use Rattle.paths.specs.Each.{Each}
+use Rattle.paths.proofs.Listed.{Run, IsRun, followed, eachFollowed, rounds, listed, each-imply, each-expected, loopless}
 use Rattle.paths.proofs.Strength.{Row, row, x, y, w, pathOf, lident, X, Y, W, lit, opaque, absent, not!, and!, plus, event, ident, Extent, whole, up-to, isWhole, shortened, must-list, OnlyBy, only-by}
 use Rattle.stmt_paths.specs.Execution.{Execution, heldAt, executionAt, executed, IsPath}
 use Rattle.stmt_paths.specs.Premises.{placeOf, placedBelow, placedAt, placedTogether, placedRows, refersAt, plainAt, rowHolds, FirstFailing, nowhere, at-row, firstFalse, firstFailing, rowOf, RowPremises, Premises}

@@ -1,6 +1,6 @@
 //! Lists of runs, put together from those of the parts.
 //!
-//! The order of a list is part of what is compared: what comes first in a sequence tells first, a round less comes before a round more.
+//! The order of a list is part of what is compared: what comes first in a sequence tells first, and no further round comes before one more.
 
 use crate::path::{Ending, Event, Run};
 use crate::random::Random;
@@ -41,11 +41,14 @@ impl Lists {
         Lists { sample: Some((most, RefCell::new(random))) }
     }
 
-    /// The list, or as many of it as a sample may hold, in its order.
-    fn kept<T>(&self, mut list: Vec<T>) -> Vec<T> {
+    /// The list, or as many of it as a sample may hold, in its order; where some fall one of them stays, so that what stands next is seen.
+    fn kept<T>(&self, mut list: Vec<T>, falls: impl Fn(&T) -> bool) -> Vec<T> {
         if let Some((most, random)) = &self.sample {
             while list.len() > *most {
-                list.remove(random.borrow_mut().below(list.len()));
+                let i = random.borrow_mut().below(list.len());
+                if !falls(&list[i]) || list.iter().filter(|run| falls(run)).count() > 1 {
+                    list.remove(i);
+                }
             }
         }
         list
@@ -53,7 +56,7 @@ impl Lists {
 
     /// One list or another.
     pub fn either(&self, lists: impl IntoIterator<Item = Vec<Run>>) -> Vec<Run> {
-        self.kept(lists.into_iter().flatten().collect())
+        self.kept(lists.into_iter().flatten().collect(), |run| run.ending == Ending::Falls)
     }
 
     /// After each run that falls every run of the second list; what does not fall goes no further.
@@ -65,7 +68,9 @@ impl Lists {
                 _ => pairs.push((run, None)),
             }
         }
-        self.kept(pairs).into_iter().map(|(run, after)| after.map_or_else(|| run.clone(), |after| followed(run, after))).collect()
+        let falls = |(run, after): &(&Run, Option<&Run>)| after.unwrap_or(run).ending == Ending::Falls;
+        let kept = self.kept(pairs, falls);
+        kept.into_iter().map(|(run, after)| after.map_or_else(|| run.clone(), |after| followed(run, after))).collect()
     }
 
     /// One after the other.

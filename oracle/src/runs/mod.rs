@@ -1,5 +1,6 @@
-//! The runs of a row, listed: document 01, "How a path runs", with Paper 2's third truth, read a second time. It is written from the two
-//! documents alone, so that the definitions that the acceptance rule speaks of can be compared with another reading.
+//! The runs of a row, listed: document 01, "How a path runs", with Paper 2's third truth and Paper 6's numbers of choices, read a second
+//! time. It is written from the two documents alone, so that the definitions that the acceptance rule speaks of can be compared with
+//! another reading.
 
 mod expressions;
 mod lists;

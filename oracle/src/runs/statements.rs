@@ -128,8 +128,8 @@ impl Lister<'_> {
         caught(Ending::Leaves, self.lists.then(&rounds, end))
     }
 
-    /// A loop jump "leaves the nearest loop or only its round, either one freely"; it "gives 0 to leave the loop, 1 its round". Another
-    /// disable does nothing.
+    /// A loop jump "leaves the nearest loop or only its round, either one freely"; it "gives 0 to leave the loop, 1 its round". What
+    /// another disable does is left out by the premises: here it does nothing.
     fn disable(&self, i: usize) -> Vec<Run> {
         if !self.view.is_loop_jump(i) {
             return nothing();
