@@ -128,6 +128,7 @@ both-when true v h k a b = rule-seq a k
 both-when false true h k a b = rule-seq h b
 both-when false false h k a b = tt
 
+-- where the whole is clean, the left is
 short-left : (d e : ExprDa) (wrote : Bool) {l : Evaluation} → IsClean (shortCircuit d e wrote) → EffectLaw d l → Evaluates none none l
 short-left Clean e wrote i p = p
 short-left Writes e wrote i p = absurd i

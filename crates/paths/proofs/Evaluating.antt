@@ -33,7 +33,8 @@ truth-of h = h .truth
 -- a command's triple from those of its parts
 ruleset composed = (rule-seq, rule-alt, truth-of)
 
--- && and ||: the right starts from what the left leaves where it lets it be evaluated
+-- && and ||: the right starts from what the left leaves where it lets it be evaluated. That is a premise for each truth and for both
+-- together, so that every case is a search.
 module _ {a b c : Mark} {l r : Evaluation} (h : Evaluates a c l) (i : Evaluates b c r) where
   both-triple : Triple a (l .truth is-true) (at b) never → Triple a (notFalse l) (at b) never → Triple a (l .truth is-unknown) (at b) never → (t : Truth) → Triple a (both l r t) (at c) never
   both-triple k g u is-true = search composed
