@@ -1,16 +1,17 @@
 -- Lists and loops of any length: each row of a block runs where those before it have fallen, each arm of a case can be chosen, by its
--- number and after the labels that document 01 names, and no run of a case is another; and a loop runs any number of rounds. The joint
--- facts of Strength know short lists and two rounds only.
+-- number and after the labels that document 01 names, and no run of a case is another; and a loop runs any number of rounds, and does
+-- nothing else. The joint facts of Strength know short lists and three rounds only.
 use mathlib.Core.Path.{_≡_, refl, ap}
 use mathlib.Core.Bool.{Bool, true, false, cond, _||_}
 use mathlib.Core.List.{List, [], _∷_, _++_, append-nil}
 use Prim.Native.Nat.{ℕ, zero, suc, _+_}
 use native.Mathlib.Nat.{add-zero, zero-add}
 use native.Mathlib.Omega.{arith}
+use lib.Dec.{eqb}
 use lib.ListN.{length}
 use Rattle.table.specs.Rows.{Forest}
 use Rattle.kinds.specs.declared.StmtClass.the-variants.{Match, Case, Block, Systask}
-use Rattle.paths.specs.Commands.{PathEvent, Ending, stops, choice, out-of-loop, Command, skip, emit, exit, seq, star, catch, Runs, run-stop, run-skip, run-seq, run-off, run-left, run-right, run-none, run-more, run-catch}
+use Rattle.paths.specs.Commands.{PathEvent, Ending, falls, stops, choice, out-of-loop, Command, skip, emit, exit, seq, star, catch, Runs, run-stop, run-skip, run-seq, run-off, run-left, run-right, run-none, run-more, run-catch}
 use Rattle.paths.specs.Evaluation.{Evaluation, inOrder}
 use Rattle.kinds.proofs.Below.{true-not-false}
 use Rattle.paths.specs.Each.{Each}
@@ -186,10 +187,51 @@ within-catch {c} {d} p = record { go = go }
     go _ _ run-stop = run-stop
     go _ _ (run-catch {s = s} {o = o} y) = run-catch (p .go s o y)
 
--- "Loops run any number of rounds, at least one with side 1"
-module _ (head body step end : Command) (n : ℕ) where
-  pub any-rounds : Within (catch out-of-loop (seq (times n (round head body step)) end)) (loop 0 head body step end)
-  any-rounds = within-catch (within-seq (times-within n (round head body step)) within-refl)
+-- some number of times, one more with a first round
+abbrev rounds : Bool → ℕ → ℕ
+rounds true n = suc n
+rounds false n = n
 
-  pub one-round-and-any : Within (catch out-of-loop (seq (times (suc n) (round head body step)) end)) (loop 1 head body step end)
-  one-round-and-any = within-catch (within-trans (same-assoc .back) (within-seq within-refl (within-seq (times-within n (round head body step)) within-refl)))
+record SomeTimes (first : Bool) (r : Command) (t : List PathEvent) (o : Ending) : Type 0 where
+  count : ℕ
+  runs : Runs (times (rounds first count) r) t o
+
+star-times : {r : Command} (t : List PathEvent) (o : Ending) → Runs (star r) t o → SomeTimes false r t o
+star-times _ _ run-stop = record { count = 0; runs = run-stop }
+star-times _ _ run-none = record { count = 0; runs = run-skip }
+star-times _ _ (run-more run-stop) = record { count = 0; runs = run-stop }
+star-times _ _ (run-more (run-off i x)) = record { count = 1; runs = run-off i x }
+star-times _ _ (run-more (run-seq {t = t} {o = o} x y)) = let more = star-times t o y in record { count = suc (more .count); runs = run-seq x (more .runs) }
+
+more-times : {r : Command} (t : List PathEvent) (o : Ending) → Runs (seq r (star r)) t o → SomeTimes true r t o
+more-times _ _ run-stop = record { count = 0; runs = run-stop }
+more-times _ _ (run-off i x) = record { count = 0; runs = run-off i x }
+more-times _ _ (run-seq {t = t} {o = o} x y) = let more = star-times t o y in record { count = more .count; runs = run-seq x (more .runs) }
+
+-- a run of a loop: so many rounds, then its end, a jump out of it caught
+pub record LoopRun (s : ℕ) (r end : Command) (t : List PathEvent) (o : Ending) : Type 0 where
+  pub count : ℕ
+  pub runs : Runs (catch out-of-loop (seq (times (rounds (eqb s 1) count) r) end)) t o
+
+module _ (r end : Command) where
+  then-end : (first : Bool) {c : Command} → ((t : List PathEvent) (o : Ending) → Runs c t o → SomeTimes first r t o) → (t : List PathEvent) (o : Ending) → Runs (seq c end) t o → (n : ℕ) × Runs (seq (times (rounds first n) r) end) t o
+  then-end first h _ _ run-stop = (0, run-stop)
+  then-end first h _ _ (run-off {s = t} {o = o} i x) = let k = h t o x in (k .count, run-off i (k .runs))
+  then-end first h _ _ (run-seq {s = t} x y) = let k = h t falls x in (k .count, run-seq (k .runs) y)
+
+  some-rounds : (first : Bool) (t : List PathEvent) (o : Ending) → Runs (cond first (seq r (seq (star r) end)) (seq (star r) end)) t o → (n : ℕ) × Runs (seq (times (rounds first n) r) end) t o
+  some-rounds true t o x = then-end true more-times t o (same-assoc .forth .go t o x)
+  some-rounds false t o x = then-end false star-times t o x
+
+  rounds-among : (first : Bool) (n : ℕ) → Within (seq (times (rounds first n) r) end) (cond first (seq r (seq (star r) end)) (seq (star r) end))
+  rounds-among true n = within-trans (same-assoc .back) (within-seq within-refl (within-seq (times-within n r) within-refl))
+  rounds-among false n = within-seq (times-within n r) within-refl
+
+-- "Loops run any number of rounds, at least one with side 1", and do nothing else
+module _ (s : ℕ) (head body step end : Command) where
+  pub any-rounds : (n : ℕ) → Within (catch out-of-loop (seq (times (rounds (eqb s 1) n) (round head body step)) end)) (loop s head body step end)
+  any-rounds n = within-catch (rounds-among (round head body step) end (eqb s 1) n)
+
+  pub only-rounds : (t : List PathEvent) (o : Ending) → Runs (loop s head body step end) t o → LoopRun s (round head body step) end t o
+  only-rounds _ _ run-stop = record { count = 0; runs = run-stop }
+  only-rounds _ _ (run-catch {s = t} {o = o} x) = let k = some-rounds (round head body step) end (eqb s 1) t o x in record { count = k .0; runs = run-catch (k .1) }
