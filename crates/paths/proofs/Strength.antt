@@ -503,8 +503,8 @@ unfolding fold evaluationAt exprClass numbered kindNumber kindOf placeFrom kinds
 joint-loopless = refl
 
 -- Rows of another local, the name 0; 5, which the local is above, is a name as any other there
-abbrev others : List (Way × Row)
-others =
+abbrev otherLocal : List (Way × Row)
+otherLocal =
     (as-value, ident (0 ∷ [])) ∷
     (as-value, ident (5 ∷ [])) ∷
     (as-value, opaque) ∷
@@ -514,7 +514,7 @@ others =
     (as-target, lident (5 ∷ [])) ∷
     []
 
-pub joint-others : map (λ c. listed 0 (evaluatedAs (c .0) (nth noEvaluation 0 (evaluations 0 (c .1 nil))))) others ≡ map (λ t. (t, falls) ∷ []) ((read ∷ []) ∷ [] ∷ (read ∷ []) ∷ (read ∷ []) ∷ (write ∷ []) ∷ [] ∷ [] ∷ [])
+pub joint-others : map (λ c. listed 0 (evaluatedAs (c .0) (nth noEvaluation 0 (evaluations 0 (c .1 nil))))) otherLocal ≡ map (λ t. (t, falls) ∷ []) ((read ∷ []) ∷ [] ∷ (read ∷ []) ∷ (read ∷ []) ∷ (write ∷ []) ∷ [] ∷ [] ∷ [])
 unfolding fold evaluationAt exprClass numbered kindNumber kindOf placeFrom kinds same isNamed begins count segments isLocal listed eachFollowed followed
 joint-others = refl
 

@@ -7,7 +7,7 @@ use Rattle.paths.specs.Evaluation.{Truth, is-true, is-false, is-unknown,
 use Rattle.paths.specs.Each.{Each}
 use Rattle.paths.specs.Unknown.{NotUnknown, UnknownLaw, ShortCircuits, by-left, by-right, TakesOneArm, first-arm, second-arm}
 use Rattle.paths.proofs.Listed.{each-parts}
-use Rattle.paths.proofs.Unknown.{BothFall, parts, both-fall, one-falls, unknown-not, unknown-and}
+use Rattle.paths.proofs.Unknown.{BothFall, fell, both-fall, one-falls, unknown-not, unknown-and}
 
 -- the else side is taken, a loop ends and a wait does not go on after false
 pub not-true-is-false : {e : Evaluation} → UnknownLaw e → (t : List PathEvent) → Each NotUnknown t → Runs (notTrue e) t falls → Runs (e .truth is-false) t falls
@@ -23,11 +23,11 @@ module _ {l r : Evaluation} (h : UnknownLaw l) (k : UnknownLaw r) where
   and-short-circuits is-true t q x = go t (both-fall t x)
     where
       go : (t : List PathEvent) → BothFall (l .truth is-true) (r .truth is-true) t → ShortCircuits is-false l r is-true t
-      go _ (parts y z) = by-right y z
+      go _ (fell y z) = by-right y z
   and-short-circuits is-false t q x = ⊎-elim by-left (λ y. go t q (both-fall t y)) (one-falls t x)
     where
       go : (t : List PathEvent) → Each NotUnknown t → BothFall (notFalse l) (r .truth is-false) t → ShortCircuits is-false l r is-false t
-      go _ q (parts {s = s} {t = u} y z) = by-right (not-false-is-true h s (each-parts NotUnknown s u q .0) y) z
+      go _ q (fell {s = s} {t = u} y z) = by-right (not-false-is-true h s (each-parts NotUnknown s u q .0) y) z
   and-short-circuits is-unknown t q x = absurd (unknown-and h k .by-choice t q x)
 
 module _ {l r : Evaluation} where
@@ -65,13 +65,13 @@ module _ {c a b : Evaluation} where
   conditional-takes-one-arm h t q x = ⊎-elim (λ y. first t (both-fall t y)) (λ y. ⊎-elim (λ z. second t (both-fall t z)) (λ z. neither t q (both-fall t z)) (one-falls t y)) (one-falls t x)
     where
       first : (t : List PathEvent) → BothFall (c .truth is-true) (a .value) t → TakesOneArm c a b t
-      first _ (parts y z) = first-arm y z
+      first _ (fell y z) = first-arm y z
 
       second : (t : List PathEvent) → BothFall (c .truth is-false) (b .value) t → TakesOneArm c a b t
-      second _ (parts y z) = second-arm y z
+      second _ (fell y z) = second-arm y z
 
       neither : (t : List PathEvent) → Each NotUnknown t → BothFall (c .truth is-unknown) (seq (a .value) (b .value)) t → TakesOneArm c a b t
-      neither _ q (parts {s = s} {t = u} y z) = absurd (h .by-choice s (each-parts NotUnknown s u q .0) y)
+      neither _ q (fell {s = s} {t = u} y z) = absurd (h .by-choice s (each-parts NotUnknown s u q .0) y)
 
   pub one-arm-taken : {t : List PathEvent} → TakesOneArm c a b t → Runs (conditional c a b) t falls
   one-arm-taken (first-arm x y) = run-left (run-seq x y)

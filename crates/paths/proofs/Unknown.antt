@@ -21,10 +21,10 @@ use Rattle.paths.proofs.Listed.{each-append, each-parts}
 
 -- of two commands one after the other both have fallen
 pub data BothFall (c d : Command) : List PathEvent → Type 0 where
-  parts : {s t : List PathEvent} → Runs c s falls → Runs d t falls → BothFall c d (s ++ t)
+  fell : {s t : List PathEvent} → Runs c s falls → Runs d t falls → BothFall c d (s ++ t)
 
 pub both-fall : {c d : Command} (t : List PathEvent) → Runs (seq c d) t falls → BothFall c d t
-both-fall _ (run-seq x y) = parts x y
+both-fall _ (run-seq x y) = fell x y
 both-fall _ (run-off e x) = absurd e
 
 -- of two alternatives one has
@@ -48,7 +48,7 @@ module _ {c d : Command} where
   idle-parts p = go (p .events) (p .idle) (both-fall (p .events) (p .runs))
     where
       go : (t : List PathEvent) → Each IsChoice t → BothFall c d t → Idles c × Idles d
-      go _ i (parts {s = s} {t = t} x y) =
+      go _ i (fell {s = s} {t = t} x y) =
           let h = each-parts IsChoice s t i in
           (record { events = s; idle = h .0; runs = x }, record { events = t; idle = h .1; runs = y })
 
@@ -67,7 +67,7 @@ unknown-free : {c : Command} → UnknownLaw (free c)
 unknown-free {c} = record { as-true = λ p. idles-then (idle-parts p .0) (chosen 1); as-false = λ p. idles-then (idle-parts p .0) (chosen 0); by-choice = λ t k x. go t k (both-fall t x) }
   where
     go : (t : List PathEvent) → Each NotUnknown t → BothFall c (emit (choice 2)) t → ⊥
-    go _ k (parts {s = s} x run-emit) = each-parts NotUnknown s (choice 2 ∷ []) k .1 .0 refl
+    go _ k (fell {s = s} x run-emit) = each-parts NotUnknown s (choice 2 ∷ []) k .1 .0 refl
 
 pub unknown-not : {e : Evaluation} → UnknownLaw e → UnknownLaw (asked (λ t. e .truth (opposite t)))
 unknown-not h = record { as-true = h .as-false; as-false = h .as-true; by-choice = h .by-choice }
@@ -80,10 +80,10 @@ module _ {l r : Evaluation} (h : UnknownLaw l) (k : UnknownLaw r) where
   and-by-choice t q x = ⊎-elim (λ y. in-right t q (both-fall t y)) (λ y. in-left t q (both-fall t y)) (one-falls t x)
     where
       in-right : (t : List PathEvent) → Each NotUnknown t → BothFall (l .truth is-true) (r .truth is-unknown) t → ⊥
-      in-right _ q (parts {s = s} {t = t} x y) = k .by-choice t (each-parts NotUnknown s t q .1) y
+      in-right _ q (fell {s = s} {t = t} x y) = k .by-choice t (each-parts NotUnknown s t q .1) y
 
       in-left : (t : List PathEvent) → Each NotUnknown t → BothFall (l .truth is-unknown) (notFalse r) t → ⊥
-      in-left _ q (parts {s = s} {t = t} x y) = h .by-choice s (each-parts NotUnknown s t q .0) x
+      in-left _ q (fell {s = s} {t = t} x y) = h .by-choice s (each-parts NotUnknown s t q .0) x
 
   pub unknown-and : UnknownLaw (asked (both l r))
   unknown-and = record {
@@ -102,13 +102,13 @@ unknown-or h k = let n = unknown-and (unknown-not h) (unknown-not k) in record {
 -- Each row
 
 data AllUnknownLaw : List Evaluation → Type 0 where
-  none-left : AllUnknownLaw []
-  and-more : {e : Evaluation} {es : List Evaluation} → UnknownLaw e → AllUnknownLaw es → AllUnknownLaw (e ∷ es)
+  no-row : AllUnknownLaw []
+  row-more : {e : Evaluation} {es : List Evaluation} → UnknownLaw e → AllUnknownLaw es → AllUnknownLaw (e ∷ es)
 
 unknown-nth : {es : List Evaluation} (n : ℕ) → AllUnknownLaw es → UnknownLaw (nth noEvaluation n es)
-unknown-nth n none-left = unknown-free
-unknown-nth zero (and-more h hs) = h
-unknown-nth (suc n) (and-more h hs) = unknown-nth n hs
+unknown-nth n no-row = unknown-free
+unknown-nth zero (row-more h hs) = h
+unknown-nth (suc n) (row-more h hs) = unknown-nth n hs
 
 unknown-cond : (b : Bool) {d e : Evaluation} → UnknownLaw d → UnknownLaw e → UnknownLaw (cond b d e)
 unknown-cond true h k = h
@@ -131,8 +131,8 @@ module _ (x s : ℕ) (cs : Forest) {es : List Evaluation} (hs : AllUnknownLaw es
 
 unknown-each : (x : ℕ) (f : Forest) → AllUnknownLaw (evaluations x f)
 unfolding fold evaluationAt
-unknown-each x nil = none-left
-unknown-each x (node k s lo hi cs others) = and-more (unknown-class x s cs (unknown-each x cs) (exprClass k)) (unknown-each x others)
+unknown-each x nil = no-row
+unknown-each x (node k s lo hi cs others) = row-more (unknown-class x s cs (unknown-each x cs) (exprClass k)) (unknown-each x others)
 
 -- of each of these siblings
 pub unknown-law : (x : ℕ) (f : Forest) (n : ℕ) → UnknownLaw (nth noEvaluation n (evaluations x f))

@@ -1,7 +1,7 @@
 -- Every run of one command is a run of another, and the same both ways: rules for what stands in a command, and for regrouping.
 use mathlib.Core.List.{List, append-assoc}
 use mathlib.Core.Path.{subst, sym}
-use Rattle.paths.specs.Commands.{PathEvent, Ending, falls, Command, skip, seq, alt, Runs, run-stop, run-skip, run-seq, run-off, run-left, run-right}
+use Rattle.paths.specs.Commands.{PathEvent, Ending, falls, Jump, Command, skip, seq, alt, catch, Runs, run-stop, run-skip, run-seq, run-off, run-left, run-right, run-catch}
 
 -- every run of the first is one of the second
 pub record Within (c d : Command) : Type 0 where
@@ -26,6 +26,13 @@ within-left p = record { go = λ t o x. run-left (p .go t o x) }
 
 pub within-right : {c d e : Command} → Within c e → Within c (alt d e)
 within-right p = record { go = λ t o x. run-right (p .go t o x) }
+
+pub within-catch : (j : Jump) {c d : Command} → Within c d → Within (catch j c) (catch j d)
+within-catch j {c} {d} p = record { go = go }
+  where
+    go : (t : List PathEvent) (o : Ending) → Runs (catch j c) t o → Runs (catch j d) t o
+    go _ _ run-stop = run-stop
+    go _ _ (run-catch {s = s} {o = o} x) = run-catch (p .go s o x)
 
 -- the two have the same runs
 pub record Same (c d : Command) : Type 0 where

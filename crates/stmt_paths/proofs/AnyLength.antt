@@ -15,8 +15,8 @@ use Rattle.paths.specs.Commands.{PathEvent, Ending, falls, stops, choice, out-o
 use Rattle.paths.specs.Evaluation.{Evaluation, inOrder}
 use Rattle.kinds.proofs.Below.{true-not-false}
 use Rattle.paths.specs.Each.{Each}
-use Rattle.paths.proofs.Within.{Within, within-refl, within-trans, within-seq, within-left, within-right, Same, same-refl, same-trans, same-seq, same-skip, same-assoc}
-use Rattle.paths.proofs.AnyLength.{each-in-turn, every-child}
+use Rattle.paths.proofs.Within.{Within, within-refl, within-trans, within-seq, within-left, within-right, within-catch, Same, same-refl, same-trans, same-seq, same-skip, same-assoc}
+use Rattle.paths.proofs.AnyLength.{in-turn, in-order-append}
 use Rattle.stmt_paths.specs.Execution.{Execution, oneByOne, hasDefault, noArm, allLabels, armsFrom, round, loop, executionOf}
 
 -- Rows of a block, arguments of a system task
@@ -25,12 +25,12 @@ module _ (x : ℕ) (marks : ℕ → Bool) (s : ℕ) (cs : Forest) (held : List (
   -- "Block: initialisers, then statements", however many
   pub every-row : (es : List Evaluation) (before : List Execution) (r : Execution) (after : List Execution)
       → Same (executionOf x marks Block s cs es held (before ++ (r ∷ after)) .run) (seq (oneByOne before) (seq (r .run) (oneByOne after)))
-  every-row es = each-in-turn (λ r. r .run) oneByOne refl (λ r more. refl)
+  every-row es before r after = in-turn (λ q. q .run) oneByOne refl (λ q more. refl) before (r ∷ after)
 
   -- "A systask evaluates its arguments", however many
-  pub every-argument : (rs : List Execution) (before : List Evaluation) (e : Evaluation) (after : List Evaluation)
+  pub every-systask-argument : (rs : List Execution) (before : List Evaluation) (e : Evaluation) (after : List Evaluation)
       → Same (executionOf x marks Systask s cs (before ++ (e ∷ after)) held rs .run) (seq (inOrder before) (seq (e .value) (inOrder after)))
-  every-argument rs = every-child
+  every-systask-argument rs before e after = in-order-append before (e ∷ after)
 
 -- Arms of a case
 
@@ -57,10 +57,6 @@ pub data CaseRun (c : Evaluation) (rs : List Execution) (t : List PathEvent) (o 
   of-arm : (before : List Execution) (r : Execution) (after : List Execution) → rs ≡ before ++ (r ∷ after) → Runs (choosesArm c before r after) t o → CaseRun c rs t o
   of-none : NoDefault rs → Runs (choosesNone c rs) t o → CaseRun c rs t o
   of-scrutinee : Runs (seq (c .value) (exit stops)) t o → CaseRun c rs t o
-
-in-order-append : (xs ys : List Evaluation) → Same (inOrder (xs ++ ys)) (seq (inOrder xs) (inOrder ys))
-in-order-append [] ys = same-skip
-in-order-append (e ∷ xs) ys = same-trans (same-seq same-refl (in-order-append xs ys)) same-assoc
 
 all-labels : (rs : List Execution) → Same (inOrder (labelsOf rs)) (allLabels rs)
 all-labels [] = same-refl
@@ -180,21 +176,14 @@ times-within zero r = record { go = go }
     go _ _ run-skip = run-none
 times-within (suc n) r = record { go = λ t o x. run-more (within-seq within-refl (times-within n r) .go t o x) }
 
-within-catch : {c d : Command} → Within c d → Within (catch out-of-loop c) (catch out-of-loop d)
-within-catch {c} {d} p = record { go = go }
-  where
-    go : (t : List PathEvent) (o : Ending) → Runs (catch out-of-loop c) t o → Runs (catch out-of-loop d) t o
-    go _ _ run-stop = run-stop
-    go _ _ (run-catch {s = s} {o = o} y) = run-catch (p .go s o y)
-
--- some number of times, one more with a first round
-abbrev rounds : Bool → ℕ → ℕ
-rounds true n = suc n
-rounds false n = n
+-- how many rounds these are: one more where a first one always runs
+abbrev pub roundCount : Bool → ℕ → ℕ
+roundCount true n = suc n
+roundCount false n = n
 
 record SomeTimes (first : Bool) (r : Command) (t : List PathEvent) (o : Ending) : Type 0 where
   count : ℕ
-  runs : Runs (times (rounds first count) r) t o
+  runs : Runs (times (roundCount first count) r) t o
 
 star-times : {r : Command} (t : List PathEvent) (o : Ending) → Runs (star r) t o → SomeTimes false r t o
 star-times _ _ run-stop = record { count = 0; runs = run-stop }
@@ -211,26 +200,26 @@ more-times _ _ (run-seq {t = t} {o = o} x y) = let more = star-times t o y in re
 -- a run of a loop: so many rounds, then its end, a jump out of it caught
 pub record LoopRun (s : ℕ) (r end : Command) (t : List PathEvent) (o : Ending) : Type 0 where
   pub count : ℕ
-  pub runs : Runs (catch out-of-loop (seq (times (rounds (eqb s 1) count) r) end)) t o
+  pub runs : Runs (catch out-of-loop (seq (times (roundCount (eqb s 1) count) r) end)) t o
 
 module _ (r end : Command) where
-  then-end : (first : Bool) {c : Command} → ((t : List PathEvent) (o : Ending) → Runs c t o → SomeTimes first r t o) → (t : List PathEvent) (o : Ending) → Runs (seq c end) t o → (n : ℕ) × Runs (seq (times (rounds first n) r) end) t o
+  then-end : (first : Bool) {c : Command} → ((t : List PathEvent) (o : Ending) → Runs c t o → SomeTimes first r t o) → (t : List PathEvent) (o : Ending) → Runs (seq c end) t o → (n : ℕ) × Runs (seq (times (roundCount first n) r) end) t o
   then-end first h _ _ run-stop = (0, run-stop)
   then-end first h _ _ (run-off {s = t} {o = o} i x) = let k = h t o x in (k .count, run-off i (k .runs))
   then-end first h _ _ (run-seq {s = t} x y) = let k = h t falls x in (k .count, run-seq (k .runs) y)
 
-  some-rounds : (first : Bool) (t : List PathEvent) (o : Ending) → Runs (cond first (seq r (seq (star r) end)) (seq (star r) end)) t o → (n : ℕ) × Runs (seq (times (rounds first n) r) end) t o
+  some-rounds : (first : Bool) (t : List PathEvent) (o : Ending) → Runs (cond first (seq r (seq (star r) end)) (seq (star r) end)) t o → (n : ℕ) × Runs (seq (times (roundCount first n) r) end) t o
   some-rounds true t o x = then-end true more-times t o (same-assoc .forth .go t o x)
   some-rounds false t o x = then-end false star-times t o x
 
-  rounds-among : (first : Bool) (n : ℕ) → Within (seq (times (rounds first n) r) end) (cond first (seq r (seq (star r) end)) (seq (star r) end))
+  rounds-among : (first : Bool) (n : ℕ) → Within (seq (times (roundCount first n) r) end) (cond first (seq r (seq (star r) end)) (seq (star r) end))
   rounds-among true n = within-trans (same-assoc .back) (within-seq within-refl (within-seq (times-within n r) within-refl))
   rounds-among false n = within-seq (times-within n r) within-refl
 
 -- "Loops run any number of rounds, at least one with side 1", and do nothing else
 module _ (s : ℕ) (head body step end : Command) where
-  pub any-rounds : (n : ℕ) → Within (catch out-of-loop (seq (times (rounds (eqb s 1) n) (round head body step)) end)) (loop s head body step end)
-  any-rounds n = within-catch (rounds-among (round head body step) end (eqb s 1) n)
+  pub any-rounds : (n : ℕ) → Within (catch out-of-loop (seq (times (roundCount (eqb s 1) n) (round head body step)) end)) (loop s head body step end)
+  any-rounds n = within-catch out-of-loop (rounds-among (round head body step) end (eqb s 1) n)
 
   pub only-rounds : (t : List PathEvent) (o : Ending) → Runs (loop s head body step end) t o → LoopRun s (round head body step) end t o
   only-rounds _ _ run-stop = record { count = 0; runs = run-stop }
