@@ -17,12 +17,16 @@ use Rattle.reads.specs.Mentions.{mentions, refers}
 use Rattle.reads.proofs.Trees.{refers-node, refers-row}
 use Rattle.paths.specs.Marks.{Mark, full, none, _⊑_}
 use Rattle.paths.specs.Commands.{PathEvent, read, write, choice, Ending, falls, stops, leaves, again, NoJump, Command, skip, emit, seq, alt, Runs, run-stop, run-skip, run-emit, run-emit-stop, run-seq, run-off, run-left, run-right}
+use Rattle.paths.specs.Semantics.{Order, row-order, free-order, Semantics}
+use Rattle.paths.specs.AnyOrder.{anyOrder, eitherFirst}
 use Rattle.paths.specs.Triples.{at, never, Ends, Triple}
-use Rattle.paths.specs.Evaluation.{Truth, is-true, is-false, is-unknown, choiceOf, Evaluation, free, asked, both, either, inOrder, readIf, writeIf, noEvaluation, evaluationOf, evaluationAt, evaluations}
+use Rattle.paths.specs.Evaluation.{Truth, is-true, is-false, is-unknown, choiceOf, Evaluation, free, asked, both, either, inOrder, values, together, called, readIf, writeIf, noEvaluation, evaluationOf, evaluationAt, evaluations}
 use Rattle.paths.specs.Evaluates.{Evaluates, AllEvaluate, no-more, one-more}
 use Rattle.paths.specs.Silence.{NotRead, Silent, ReadsNothing}
 use Rattle.paths.proofs.Rules.{good-full, good-silent}
+use Rattle.paths.specs.Each.{Each}
 use Rattle.paths.proofs.Listed.{each-append}
+use Rattle.paths.proofs.AnyOrder.{Composes, any-order-of}
 
 -- Commands
 
@@ -32,6 +36,13 @@ pub data Built (P : PathEvent → Type 0) : Command → Type 0 where
   of-emit : {e : PathEvent} → P e → Built P (emit e)
   of-seq : {c d : Command} → Built P c → Built P d → Built P (seq c d)
   of-alt : {c d : Command} → Built P c → Built P d → Built P (alt c d)
+
+composes : (P : PathEvent → Type 0) → Composes (Built P)
+composes P = record { none = of-skip; both = of-seq; one-of = of-alt }
+
+built-first : {P : PathEvent → Type 0} (o : Order) {c d : Command} → Built P c → Built P d → Built P (eitherFirst o c d)
+built-first row-order h k = of-seq h k
+built-first free-order h k = of-alt (of-seq h k) (of-seq k h)
 
 never-jumps : {P : PathEvent → Type 0} {c : Command} {t : List PathEvent} {o : Ending} → Built P c → Runs c t o → NoJump o
 never-jumps b run-stop = tt
@@ -112,13 +123,25 @@ module _ (P : PathEvent → Type 0) (pw : P write) (pc : (n : ℕ) → P (choice
   built-in-order none-left = of-skip
   built-in-order (and-more h hs) = let k = built-in-order hs in search (of-seq)
 
+  built-values : {es : List Evaluation} → AllBuilt P es → Each (Built P) (values es)
+  built-values none-left = tt
+  built-values (and-more h hs) = (h .value, built-values hs)
+
+  built-together : (o : Order) {es : List Evaluation} → AllBuilt P es → Built P (together o es)
+  built-together row-order hs = built-in-order hs
+  built-together free-order {es} hs = any-order-of (Built P) (composes P) (values es) (built-values hs)
+
+  built-called : (o : Order) (b : Bool) {es : List Evaluation} → (b ≡ true → P read) → AllBuilt P es → Built P (called o b es)
+  built-called row-order b q hs = of-seq (built-read b q) (built-in-order hs)
+  built-called free-order b {es} q hs = any-order-of (Built P) (composes P) (readIf b ∷ values es) (built-read b q, built-values hs)
+
   built-nth : {es : List Evaluation} (n : ℕ) → AllBuilt P es → EachBuilt P (nth noEvaluation n es)
   built-nth n none-left = built-free of-skip
   built-nth zero (and-more h hs) = h
   built-nth (suc n) (and-more h hs) = built-nth n hs
 
   -- a command from its parts
-  ruleset parts = (of-skip, of-emit, of-seq, of-alt, built-read, built-write, built-in-order, truth-built)
+  ruleset parts = (of-skip, of-emit, of-seq, of-alt, built-read, built-write, built-first, built-together, built-called, truth-built)
 
   module _ {l r : Evaluation} (h : EachBuilt P l) (k : EachBuilt P r) where
     built-and : (t : Truth) → Built P (both l r t)
@@ -131,11 +154,11 @@ module _ (P : PathEvent → Type 0) (pw : P write) (pc : (n : ℕ) → P (choice
     built-or is-false = search parts
     built-or is-unknown = search parts
 
-  module _ {es : List Evaluation} (x s : ℕ) (cs : Forest) (hs : AllBuilt P es) where
+  module _ {es : List Evaluation} (sem : Semantics) (x s : ℕ) (cs : Forest) (hs : AllBuilt P es) where
     abbrev operand : (n : ℕ) → EachBuilt P (nth noEvaluation n es)
     operand n = built-nth n hs
 
-    built-class : (k : ExprClass) → (mentions x k cs ≡ true → P read) → EachBuilt P (evaluationOf x k s cs es)
+    built-class : (k : ExprClass) → (mentions x k cs ≡ true → P read) → EachBuilt P (evaluationOf sem x k s cs es)
     built-class Ident q = built-free (search parts)
     built-class Opaque q = let r = q refl in built-free (search parts)
     built-class Unary q = built-either (eqb s 1) (built-asked (λ t. search (parts, operand 0))) (built-free (search (parts, operand 0)))
@@ -149,13 +172,13 @@ module _ (P : PathEvent → Type 0) (pw : P write) (pc : (n : ℕ) → P (choice
     built-class Event q = built-free (search parts)
     built-class Other q = built-free (search parts)
 
-  built : (x : ℕ) (f : Forest) → (refers Held x f ≡ true → P read) → AllBuilt P (evaluations x f)
+  built : (sem : Semantics) (x : ℕ) (f : Forest) → (refers Held x f ≡ true → P read) → AllBuilt P (evaluations sem x f)
   unfolding fold evaluationAt
-  built x nil q = none-left
-  built x (node k s lo hi cs others) q =
+  built sem x nil q = none-left
+  built sem x (node k s lo hi cs others) q =
       and-more
-      (built-class x s cs (built x cs (λ e. here (or-right (mentions x (exprClass k) cs) (refers Held x cs) e))) (exprClass k) (λ e. here (or-left (mentions x (exprClass k) cs) (refers Held x cs) e)))
-      (built x others (λ e. q (refers-node Held x k s lo hi cs others ∙ or-right (refers Held x (node k s lo hi cs nil)) (refers Held x others) e)))
+      (built-class sem x s cs (built sem x cs (λ e. here (or-right (mentions x (exprClass k) cs) (refers Held x cs) e))) (exprClass k) (λ e. here (or-left (mentions x (exprClass k) cs) (refers Held x cs) e)))
+      (built sem x others (λ e. q (refers-node Held x k s lo hi cs others ∙ or-right (refers Held x (node k s lo hi cs nil)) (refers Held x others) e)))
     where
       here : mentions x (exprClass k) cs || refers Held x cs ≡ true → P read
       here e = q (refers-node Held x k s lo hi cs others ∙ or-left (refers Held x (node k s lo hi cs nil)) (refers Held x others) (refers-row x k s lo hi cs ∙ e))
@@ -175,29 +198,29 @@ silent-none = built-silent (built-free NotRead tt (λ n. tt) of-skip)
 first : {P : PathEvent → Type 0} {e : Evaluation} {es : List Evaluation} → AllBuilt P (e ∷ es) → EachBuilt P e
 first (and-more h hs) = h
 
-module _ (x k s lo hi : ℕ) (cs : Forest) where
+module _ (sem : Semantics) (x k s lo hi : ℕ) (cs : Forest) where
   -- where all is written, every evaluation is fine
-  pub calm-row : Evaluates full full (evaluationAt x k s lo hi cs (evaluations x cs))
+  pub calm-row : Evaluates full full (evaluationAt sem x k s lo hi cs (evaluations sem x cs))
   unfolding fold
   calm-row =
-      let h = first (built (λ e. Unit) tt (λ n. tt) x (node k s lo hi cs nil) (λ e. tt)) in
+      let h = first (built (λ e. Unit) tt (λ n. tt) sem x (node k s lo hi cs nil) (λ e. tt)) in
       record { value = built-calm (h .value); truth = λ t. built-calm (h .truth t); store = built-calm (h .store) }
 
   module _ (r : refers Held x (node k s lo hi cs nil) ≡ false) where
-    quiet-built : EachBuilt NotRead (evaluationAt x k s lo hi cs (evaluations x cs))
+    quiet-built : EachBuilt NotRead (evaluationAt sem x k s lo hi cs (evaluations sem x cs))
     unfolding fold
-    quiet-built = first (built NotRead tt (λ n. tt) x (node k s lo hi cs nil) (λ e. true-not-false (sym e ∙ r)))
+    quiet-built = first (built NotRead tt (λ n. tt) sem x (node k s lo hi cs nil) (λ e. true-not-false (sym e ∙ r)))
 
     -- a row that does not refer is fine from nothing written on
-    pub quiet-row : Evaluates none none (evaluationAt x k s lo hi cs (evaluations x cs))
+    pub quiet-row : Evaluates none none (evaluationAt sem x k s lo hi cs (evaluations sem x cs))
     quiet-row = record { value = built-quiet (quiet-built .value); truth = λ t. built-quiet (quiet-built .truth t); store = built-quiet (quiet-built .store) }
 
     -- and reads nothing
-    pub silent-row : ReadsNothing (evaluationAt x k s lo hi cs (evaluations x cs))
+    pub silent-row : ReadsNothing (evaluationAt sem x k s lo hi cs (evaluations sem x cs))
     silent-row = built-silent quiet-built
 
 -- where all is written, every evaluation of every row is fine
-pub calm-all : (x : ℕ) (f : Forest) → AllEvaluate full (evaluations x f)
+pub calm-all : (sem : Semantics) (x : ℕ) (f : Forest) → AllEvaluate full (evaluations sem x f)
 unfolding fold
-calm-all x nil = no-more
-calm-all x (node k s lo hi cs others) = one-more (calm-row x k s lo hi cs) (calm-all x others)
+calm-all sem x nil = no-more
+calm-all sem x (node k s lo hi cs others) = one-more (calm-row sem x k s lo hi cs) (calm-all sem x others)

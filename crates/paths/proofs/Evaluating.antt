@@ -3,12 +3,16 @@ use mathlib.Core.Bool.{Bool, true, false}
 use mathlib.Core.List.{List}
 use Prim.Native.Nat.{ℕ, zero, suc}
 use Rattle.table.specs.Fold.{nth, tail}
-use Rattle.paths.specs.Marks.{Mark, _⊑_, none, ⊑-refl, none-⊑}
+use Rattle.paths.specs.Marks.{Mark, _⊑_, none, ⊑-refl, ⊑-full, none-⊑}
 use Rattle.paths.specs.Commands.{Command}
+use Rattle.paths.specs.Semantics.{Order, row-order, free-order}
+use Rattle.paths.specs.AnyOrder.{eitherFirst}
 use Rattle.paths.specs.Triples.{Triple, at, never}
-use Rattle.paths.specs.Evaluation.{Truth, is-true, is-false, is-unknown, choiceOf, Evaluation, free, ofAny, asked, notFalse, notTrue, both, either, conditional, inOrder, noEvaluation}
+use Rattle.paths.specs.Evaluation.{Truth, is-true, is-false, is-unknown, choiceOf, Evaluation, free, ofAny, asked, notFalse, notTrue, both, either, conditional, inOrder, values, together, writeIf, noEvaluation}
+use Rattle.paths.specs.Each.{Each}
 use Rattle.paths.specs.Evaluates.{Meets, Evaluates, AllEvaluate, no-more, one-more}
-use Rattle.paths.proofs.Rules.{less, nowhere, weaken, lift, rule-skip, rule-choice, rule-seq, rule-alt}
+use Rattle.paths.proofs.Rules.{less, nowhere, weaken, lift, rule-skip, rule-write, rule-choice, rule-seq, rule-alt}
+use Rattle.paths.proofs.AnyOrder.{Keeps, rule-any-order, rule-either-first}
 
 -- nothing is known at the end
 pub evaluates-forget : {a b : Mark} {e : Evaluation} → Evaluates a b e → Evaluates a none e
@@ -56,8 +60,8 @@ chain-triple true h k i = both-triple h i (k is-true tt) (rule-alt (k is-true tt
 chain-triple false h k i = either-triple h i (k is-false tt) (rule-alt (k is-false tt) (k is-unknown tt)) (k is-unknown tt)
 
 -- the arms keep what the condition leaves
-pub conditional-triple : {a b : Mark} {e l r : Evaluation} → Evaluates a b e → Evaluates b b l → Evaluates b b r → Triple a (conditional e l r) (at b) never
-conditional-triple h i k = let arms = rule-seq (i .value) (k .value) in search composed
+pub conditional-triple : (o : Order) {a b : Mark} {e l r : Evaluation} → Evaluates a b e → Evaluates b b l → Evaluates b b r → Triple a (conditional o e l r) (at b) never
+conditional-triple o h i k = let arms = rule-either-first o (i .value) (k .value) in search composed
 
 -- what is fine from less is fine from more, and keeps it
 pub evaluates-lift : {a b m : Mark} {e : Evaluation} → a ⊑ m → Evaluates a b e → Evaluates m m e
@@ -76,6 +80,19 @@ module _ {m : Mark} where
   pub in-order : {es : List Evaluation} → AllEvaluate m es → Triple m (inOrder es) (at m) never
   in-order no-more = rule-skip
   in-order (one-more h hs) = rule-seq (h .value) (in-order hs)
+
+  pub values-keep : {es : List Evaluation} → AllEvaluate m es → Each (Keeps m) (values es)
+  values-keep no-more = tt
+  values-keep (one-more h hs) = (h .value, values-keep hs)
+
+  pub all-together : (o : Order) {es : List Evaluation} → AllEvaluate m es → Keeps m (together o es)
+  all-together row-order h = in-order h
+  all-together free-order {es} h = rule-any-order (values es) (values-keep h)
+
+  -- the write of a target keeps what is written
+  pub write-keeps : (b : Bool) → Keeps m (writeIf b)
+  write-keeps true = weaken ⊑-refl (less ⊑-full) nowhere rule-write
+  write-keeps false = rule-skip
 
   pub evaluates-none : Evaluates m m noEvaluation
   evaluates-none = evaluates-free rule-skip

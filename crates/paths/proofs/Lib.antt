@@ -3,6 +3,8 @@ pub mod Meaning
 pub mod Prefixes
 pub mod Evaluating
 pub mod Within
+pub mod AnyOrder
+pub mod RowAmongFree
 pub mod Unknown
 pub mod TwoValued
 pub mod AnyLength

@@ -3,6 +3,8 @@
 use mathlib.Core.Logic.{⊎-elim}
 use mathlib.Core.List.{List}
 use Rattle.paths.specs.Commands.{PathEvent, falls, seq, Runs, run-seq, run-left, run-right}
+use Rattle.paths.specs.Semantics.{Order}
+use Rattle.paths.specs.AnyOrder.{eitherFirst}
 use Rattle.paths.specs.Evaluation.{Truth, is-true, is-false, is-unknown, opposite, Evaluation, asked, notFalse, notTrue, both, either, conditional}
 use Rattle.paths.specs.Each.{Each}
 use Rattle.paths.specs.Unknown.{NotUnknown, UnknownLaw, ShortCircuits, by-left, by-right, TakesOneArm, first-arm, second-arm}
@@ -60,8 +62,8 @@ module _ {l r : Evaluation} where
 
 -- a conditional expression
 
-module _ {c a b : Evaluation} where
-  pub conditional-takes-one-arm : UnknownLaw c → (t : List PathEvent) → Each NotUnknown t → Runs (conditional c a b) t falls → TakesOneArm c a b t
+module _ (order : Order) {c a b : Evaluation} where
+  pub conditional-takes-one-arm : UnknownLaw c → (t : List PathEvent) → Each NotUnknown t → Runs (conditional order c a b) t falls → TakesOneArm c a b t
   conditional-takes-one-arm h t q x = ⊎-elim (λ y. first t (both-fall t y)) (λ y. ⊎-elim (λ z. second t (both-fall t z)) (λ z. neither t q (both-fall t z)) (one-falls t y)) (one-falls t x)
     where
       first : (t : List PathEvent) → BothFall (c .truth is-true) (a .value) t → TakesOneArm c a b t
@@ -70,9 +72,9 @@ module _ {c a b : Evaluation} where
       second : (t : List PathEvent) → BothFall (c .truth is-false) (b .value) t → TakesOneArm c a b t
       second _ (fell y z) = second-arm y z
 
-      neither : (t : List PathEvent) → Each NotUnknown t → BothFall (c .truth is-unknown) (seq (a .value) (b .value)) t → TakesOneArm c a b t
+      neither : (t : List PathEvent) → Each NotUnknown t → BothFall (c .truth is-unknown) (eitherFirst order (a .value) (b .value)) t → TakesOneArm c a b t
       neither _ q (fell {s = s} {t = u} y z) = absurd (h .by-choice s (each-parts NotUnknown s u q .0) y)
 
-  pub one-arm-taken : {t : List PathEvent} → TakesOneArm c a b t → Runs (conditional c a b) t falls
+  pub one-arm-taken : {t : List PathEvent} → TakesOneArm c a b t → Runs (conditional order c a b) t falls
   one-arm-taken (first-arm x y) = run-left (run-seq x y)
   one-arm-taken (second-arm x y) = run-right (run-left (run-seq x y))

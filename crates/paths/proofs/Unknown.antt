@@ -12,6 +12,7 @@ use Rattle.kinds.specs.declared.ExprClass.{ExprClass}
 use Rattle.kinds.specs.declared.ExprClass.the-variants.{Ident, Call, Lident, Opaque, Event, Unary, Binary, Ternary, Paren, Other}
 use Rattle.kinds.specs.Named.{exprClass}
 use Rattle.paths.specs.Commands.{PathEvent, choice, falls, Command, emit, seq, alt, Runs, run-emit, run-seq, run-off, run-left, run-right}
+use Rattle.paths.specs.Semantics.{Semantics}
 use Rattle.paths.specs.Evaluation.{is-true, is-unknown, opposite, Evaluation, free, asked, notFalse, both, either, noEvaluation, evaluationOf, evaluationAt, evaluations}
 use Rattle.paths.specs.Each.{Each}
 use Rattle.paths.specs.Unknown.{IsChoice, NotUnknown, Idles, UnknownLaw}
@@ -114,8 +115,8 @@ unknown-cond : (b : Bool) {d e : Evaluation} → UnknownLaw d → UnknownLaw e �
 unknown-cond true h k = h
 unknown-cond false h k = k
 
-module _ (x s : ℕ) (cs : Forest) {es : List Evaluation} (hs : AllUnknownLaw es) where
-  unknown-class : (k : ExprClass) → UnknownLaw (evaluationOf x k s cs es)
+module _ (sem : Semantics) (x s : ℕ) (cs : Forest) {es : List Evaluation} (hs : AllUnknownLaw es) where
+  unknown-class : (k : ExprClass) → UnknownLaw (evaluationOf sem x k s cs es)
   unknown-class Ident = unknown-free
   unknown-class Opaque = unknown-free
   unknown-class Unary = unknown-cond (eqb s 1) (unknown-not (unknown-nth 0 hs)) unknown-free
@@ -129,11 +130,11 @@ module _ (x s : ℕ) (cs : Forest) {es : List Evaluation} (hs : AllUnknownLaw es
   unknown-class Event = unknown-free
   unknown-class Other = unknown-free
 
-unknown-each : (x : ℕ) (f : Forest) → AllUnknownLaw (evaluations x f)
+unknown-each : (sem : Semantics) (x : ℕ) (f : Forest) → AllUnknownLaw (evaluations sem x f)
 unfolding fold evaluationAt
-unknown-each x nil = no-row
-unknown-each x (node k s lo hi cs others) = row-more (unknown-class x s cs (unknown-each x cs) (exprClass k)) (unknown-each x others)
+unknown-each sem x nil = no-row
+unknown-each sem x (node k s lo hi cs others) = row-more (unknown-class sem x s cs (unknown-each sem x cs) (exprClass k)) (unknown-each sem x others)
 
 -- of each of these siblings
-pub unknown-law : (x : ℕ) (f : Forest) (n : ℕ) → UnknownLaw (nth noEvaluation n (evaluations x f))
-unknown-law x f n = unknown-nth n (unknown-each x f)
+pub unknown-law : (sem : Semantics) (x : ℕ) (f : Forest) (n : ℕ) → UnknownLaw (nth noEvaluation n (evaluations sem x f))
+unknown-law sem x f n = unknown-nth n (unknown-each sem x f)

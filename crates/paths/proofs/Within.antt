@@ -1,7 +1,7 @@
 -- Every run of one command is a run of another, and the same both ways: rules for what stands in a command, and for regrouping.
-use mathlib.Core.List.{List, append-assoc}
+use mathlib.Core.List.{List, [], append-nil, append-assoc}
 use mathlib.Core.Path.{subst, sym}
-use Rattle.paths.specs.Commands.{PathEvent, Ending, falls, Jump, Command, skip, seq, alt, catch, Runs, run-stop, run-skip, run-seq, run-off, run-left, run-right, run-catch}
+use Rattle.paths.specs.Commands.{PathEvent, Ending, falls, stops, leaves, again, Jump, Command, skip, seq, alt, star, catch, Runs, run-stop, run-skip, run-seq, run-off, run-left, run-right, run-none, run-more, run-catch}
 
 -- every run of the first is one of the second
 pub record Within (c d : Command) : Type 0 where
@@ -21,11 +21,29 @@ within-seq {c} {d} {c′} {d′} p q = record { go = go }
     go _ _ (run-seq {s = s} {t = t} {o = o} x y) = run-seq (p .go s falls x) (q .go t o y)
     go _ _ (run-off {s = s} {o = o} i x) = run-off i (p .go s o x)
 
+pub within-alt : {c d c′ d′ : Command} → Within c c′ → Within d d′ → Within (alt c d) (alt c′ d′)
+within-alt {c} {d} {c′} {d′} p q = record { go = go }
+  where
+    go : (t : List PathEvent) (o : Ending) → Runs (alt c d) t o → Runs (alt c′ d′) t o
+    go _ _ run-stop = run-stop
+    go _ _ (run-left {s = s} {o = o} x) = run-left (p .go s o x)
+    go _ _ (run-right {s = s} {o = o} x) = run-right (q .go s o x)
+
 pub within-left : {c d e : Command} → Within c d → Within c (alt d e)
 within-left p = record { go = λ t o x. run-left (p .go t o x) }
 
 pub within-right : {c d e : Command} → Within c e → Within c (alt d e)
 within-right p = record { go = λ t o x. run-right (p .go t o x) }
+
+star-go : {c d : Command} → Within c d → (t : List PathEvent) (o : Ending) → Runs (star c) t o → Runs (star d) t o
+star-go p _ _ run-stop = run-stop
+star-go p _ _ run-none = run-none
+star-go p _ _ (run-more run-stop) = run-stop
+star-go p _ _ (run-more (run-seq {s = s} {t = t} {o = o} x y)) = run-more (run-seq (p .go s falls x) (star-go p t o y))
+star-go p _ _ (run-more (run-off {s = s} {o = o} i x)) = run-more (run-off i (p .go s o x))
+
+pub within-star : {c d : Command} → Within c d → Within (star c) (star d)
+within-star p = record { go = star-go p }
 
 pub within-catch : (j : Jump) {c d : Command} → Within c d → Within (catch j c) (catch j d)
 within-catch j {c} {d} p = record { go = go }
@@ -33,6 +51,16 @@ within-catch j {c} {d} p = record { go = go }
     go : (t : List PathEvent) (o : Ending) → Runs (catch j c) t o → Runs (catch j d) t o
     go _ _ run-stop = run-stop
     go _ _ (run-catch {s = s} {o = o} x) = run-catch (p .go s o x)
+
+-- what can fall without an event may stand after
+pub within-then : {c d e : Command} → Runs e [] falls → Within c d → Within c (seq d e)
+within-then {c} {d} {e} n p = record { go = go }
+  where
+    go : (t : List PathEvent) (o : Ending) → Runs c t o → Runs (seq d e) t o
+    go t falls x = subst (λ u. Runs (seq d e) u falls) (append-nil t) (run-seq (p .go t falls x) n)
+    go t stops x = run-off tt (p .go t stops x)
+    go t leaves x = run-off tt (p .go t leaves x)
+    go t again x = run-off tt (p .go t again x)
 
 -- the two have the same runs
 pub record Same (c d : Command) : Type 0 where
@@ -47,6 +75,9 @@ same-trans p q = record { forth = within-trans (p .forth) (q .forth); back = wit
 
 pub same-seq : {c d c′ d′ : Command} → Same c c′ → Same d d′ → Same (seq c d) (seq c′ d′)
 same-seq p q = record { forth = within-seq (p .forth) (q .forth); back = within-seq (p .back) (q .back) }
+
+pub same-sym : {c d : Command} → Same c d → Same d c
+same-sym p = record { forth = p .back; back = p .forth }
 
 -- what does nothing may stand before
 pub same-skip : {c : Command} → Same c (seq skip c)

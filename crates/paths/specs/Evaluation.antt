@@ -1,6 +1,7 @@
 -- How an expression is evaluated: document 01, "How a path runs", and document 02, Paper 2, with the clauses of IEEE 1800 that fix
--- it in brackets. Definitions only. Nothing here is written from the Rust.
-use mathlib.Core.List.{List, [], _∷_}
+-- it in brackets. Where these leave the order open, row order is document 01's and free order is every one. Definitions only. Nothing
+-- here is written from the Rust.
+use mathlib.Core.List.{List, [], _∷_, map}
 use mathlib.Core.Bool.{Bool, true, false, cond}
 use Prim.Native.Nat.{ℕ}
 use lib.Dec.{eqb}
@@ -11,6 +12,8 @@ use Rattle.kinds.specs.declared.ExprClass.the-variants.{Ident, Call, Lident, Op
 use Rattle.kinds.specs.Named.{exprClass}
 use Rattle.reads.specs.PathRows.{begins, isLocal}
 use Rattle.paths.specs.Commands.{read, write, choice, Command, skip, emit, seq, alt}
+use Rattle.paths.specs.Semantics.{Order, row-order, free-order, Semantics}
+use Rattle.paths.specs.AnyOrder.{anyOrder, eitherFirst}
 
 -- what the truth of a condition comes out as, on a path: "From here a condition may be unknown" (document 02, Paper 2; 11.4.7:
 -- a one-bit result is x where the truth is ambiguous)
@@ -37,10 +40,12 @@ pub record Evaluation : Type 0 where
   pub truth : Truth → Command
   -- as the target of an assignment: its selects, then the write
   pub store : Command
+  -- whether it is "the plain local", which as a target is written
+  pub isPlainLocal : Bool
 
 -- "is evaluated and then is freely true or false", or unknown (12.4: true where the value is known and nonzero)
 abbrev pub free : Command → Evaluation
-free c = record { value = c; truth = λ t. seq c (emit (choice (choiceOf t))); store = c }
+free c = record { value = c; truth = λ t. seq c (emit (choice (choiceOf t))); store = c; isPlainLocal = false }
 
 -- whatever truth it comes out as
 abbrev pub ofAny : (Truth → Command) → Command
@@ -49,7 +54,7 @@ ofAny f = alt (f is-true) (alt (f is-false) (f is-unknown))
 -- &&, || and `!`: the truth comes from their operands, "Evaluated operands of &&, || and `!` always have their truth asked"
 -- (11.4.7)
 abbrev pub asked : (Truth → Command) → Evaluation
-asked f = record { value = ofAny f; truth = f; store = ofAny f }
+asked f = record { value = ofAny f; truth = f; store = ofAny f; isPlainLocal = false }
 
 -- "&& goes on to its right unless the left is false"
 abbrev pub notFalse : Evaluation → Command
@@ -73,17 +78,26 @@ either l r is-true = alt (l .truth is-true) (seq (notTrue l) (r .truth is-true))
 either l r is-false = seq (l .truth is-false) (r .truth is-false)
 either l r is-unknown = alt (seq (l .truth is-false) (r .truth is-unknown)) (seq (l .truth is-unknown) (notTrue r))
 
--- "A conditional expression evaluates its condition and one arm"; after an unknown condition it "evaluates both arms", here in
--- row order (11.4.11)
-abbrev pub conditional : Evaluation → Evaluation → Evaluation → Command
-conditional c a b =
+-- "A conditional expression evaluates its condition and one arm"; after an unknown condition it "evaluates both arms" (11.4.11, which
+-- does not say which of them first)
+abbrev pub conditional : Order → Evaluation → Evaluation → Evaluation → Command
+conditional o c a b =
     alt (seq (c .truth is-true) (a .value))
-    (alt (seq (c .truth is-false) (b .value)) (seq (c .truth is-unknown) (seq (a .value) (b .value))))
+    (alt (seq (c .truth is-false) (b .value)) (seq (c .truth is-unknown) (eitherFirst o (a .value) (b .value))))
 
 -- "everything else evaluates its children in row order" (11.3.5: all operands are evaluated; in which order is not said)
 abbrev pub inOrder : List Evaluation → Command
 inOrder [] = skip
 inOrder (e ∷ es) = seq (e .value) (inOrder es)
+
+-- what each of these does where its truth is not asked
+abbrev pub values : List Evaluation → List Command
+values = map (λ e. e .value)
+
+-- all of these: operands, parts, arguments, selects, expressions of a delay, events of a list
+abbrev pub together : Order → List Evaluation → Command
+together row-order es = inOrder es
+together free-order es = anyOrder (values es)
 
 -- a read where the test says so
 abbrev pub readIf : Bool → Command
@@ -97,7 +111,7 @@ writeIf false = skip
 
 -- "then the write if the target is the plain local"; "a select of it, or a longer path, is neither read nor written" (10.4)
 abbrev pub target : Bool → Evaluation
-target plain = record { value = skip; truth = free skip .truth; store = writeIf plain }
+target plain = record { value = skip; truth = free skip .truth; store = writeIf plain; isPlainLocal = plain }
 
 -- what stands where a child is missing
 abbrev pub noEvaluation : Evaluation
@@ -108,36 +122,41 @@ abbrev pub unary : ℕ → List Evaluation → Evaluation
 unary s es = cond (eqb s 1) (asked (λ t. nth noEvaluation 0 es .truth (opposite t))) (free (nth noEvaluation 0 es .value))
 
 -- side 1 is &&, 2 is ||; every other binary operator evaluates both operands (11.3.5)
-abbrev pub binary : ℕ → List Evaluation → Evaluation
-binary s es =
+abbrev pub binary : Order → ℕ → List Evaluation → Evaluation
+binary o s es =
     cond (eqb s 1) (asked (both (nth noEvaluation 0 es) (nth noEvaluation 1 es)))
     (cond (eqb s 2) (asked (either (nth noEvaluation 0 es) (nth noEvaluation 1 es)))
-    (free (seq (nth noEvaluation 0 es .value) (nth noEvaluation 1 es .value))))
+    (free (eitherFirst o (nth noEvaluation 0 es .value) (nth noEvaluation 1 es .value))))
+
+-- "A call path beginning with the local reads", and the arguments; in free order its own path is one of its children
+abbrev pub called : Order → Bool → List Evaluation → Command
+called row-order headed es = seq (readIf headed) (inOrder es)
+called free-order headed es = anyOrder (readIf headed ∷ values es)
 
 -- "A call with side 1 writes the whole local"; "A call path beginning with the local reads unless side is 1"; "what a called
 -- function with side 2 or 3 reads inside itself ... is no read of the path" (13.4, 13.5)
-abbrev pub call : Bool → ℕ → List Evaluation → Evaluation
-call headed s es = cond (eqb s 1) (free (emit write)) (free (seq (readIf headed) (inOrder es)))
+abbrev pub call : Order → Bool → ℕ → List Evaluation → Evaluation
+call o headed s es = cond (eqb s 1) (free (emit write)) (free (called o headed es))
 
 -- a row from its class, side, children and the children's evaluations: "An ident whose first segment is the local reads; so
 -- does opaque" (11.5); "paren passes" (11.3.2); an event evaluates its expression and its iff (9.4.2, 9.4.2.3); selects,
 -- concatenations and the rest their operands (11.4.12, 11.5.1)
-abbrev pub evaluationOf : ℕ → ExprClass → ℕ → Forest → List Evaluation → Evaluation
-evaluationOf x Ident s cs es = free (readIf (begins x cs))
-evaluationOf x Opaque s cs es = free (emit read)
-evaluationOf x Unary s cs es = unary s es
-evaluationOf x Binary s cs es = binary s es
-evaluationOf x Ternary s cs es = free (conditional (nth noEvaluation 0 es) (nth noEvaluation 1 es) (nth noEvaluation 2 es))
-evaluationOf x Call s cs es = call (begins x cs) s es
-evaluationOf x Paren s cs es = nth noEvaluation 0 es
-evaluationOf x Lident s cs es = target (isLocal x cs)
-evaluationOf x Event s cs es = free (inOrder es)
-evaluationOf x Other s cs es = free (inOrder es)
+abbrev pub evaluationOf : Semantics → ℕ → ExprClass → ℕ → Forest → List Evaluation → Evaluation
+evaluationOf sem x Ident s cs es = free (readIf (begins x cs))
+evaluationOf sem x Opaque s cs es = free (emit read)
+evaluationOf sem x Unary s cs es = unary s es
+evaluationOf sem x Binary s cs es = binary (sem .order) s es
+evaluationOf sem x Ternary s cs es = free (conditional (sem .order) (nth noEvaluation 0 es) (nth noEvaluation 1 es) (nth noEvaluation 2 es))
+evaluationOf sem x Call s cs es = call (sem .order) (begins x cs) s es
+evaluationOf sem x Paren s cs es = nth noEvaluation 0 es
+evaluationOf sem x Lident s cs es = target (isLocal x cs)
+evaluationOf sem x Event s cs es = free (together (sem .order) es)
+evaluationOf sem x Other s cs es = free (together (sem .order) es)
 
 -- a row by its kind number
-unfoldable pub evaluationAt : ℕ → Alg Evaluation
-evaluationAt x k s lo hi cs es = evaluationOf x (exprClass k) s cs es
+unfoldable pub evaluationAt : Semantics → ℕ → Alg Evaluation
+evaluationAt sem x k s lo hi cs es = evaluationOf sem x (exprClass k) s cs es
 
 -- the evaluation of each of these siblings, for the local x
-abbrev pub evaluations : ℕ → Forest → List Evaluation
-evaluations x = fold (evaluationAt x)
+abbrev pub evaluations : Semantics → ℕ → Forest → List Evaluation
+evaluations sem x = fold (evaluationAt sem x)

@@ -1,6 +1,8 @@
 pub mod Each
 pub mod Marks
 pub mod Commands
+pub mod Semantics
+pub mod AnyOrder
 pub mod Triples
 pub mod Evaluation
 pub mod Evaluates

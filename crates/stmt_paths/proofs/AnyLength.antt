@@ -1,6 +1,7 @@
 -- Lists and loops of any length: each row of a block runs where those before it have fallen, each arm of a case can be chosen, by its
--- number and after the labels that document 01 names, and no run of a case is another; and a loop runs any number of rounds, and does
--- nothing else. The joint facts of Strength know short lists and three rounds only.
+-- number and after the labels that document 01 names, or in free order up to any one of the arm's own, and no run of a case is another;
+-- and a loop runs any number of rounds, and does nothing else. The joint facts of Strength and AllOrders know short lists and three
+-- rounds only.
 use mathlib.Core.Path.{_≡_, refl, ap}
 use mathlib.Core.Bool.{Bool, true, false, cond, _||_}
 use mathlib.Core.List.{List, [], _∷_, _++_, append-nil}
@@ -12,25 +13,30 @@ use lib.ListN.{length}
 use Rattle.table.specs.Rows.{Forest}
 use Rattle.kinds.specs.declared.StmtClass.the-variants.{Match, Case, Block, Systask}
 use Rattle.paths.specs.Commands.{PathEvent, Ending, falls, stops, choice, out-of-loop, Command, skip, emit, exit, seq, star, catch, Runs, run-stop, run-skip, run-seq, run-off, run-left, run-right, run-none, run-more, run-catch}
-use Rattle.paths.specs.Evaluation.{Evaluation, inOrder}
+use Rattle.paths.specs.Semantics.{Order, Semantics, rowOrder, freeOrder}
+use Rattle.paths.specs.Evaluation.{Evaluation, inOrder, values}
 use Rattle.kinds.proofs.Below.{true-not-false}
 use Rattle.paths.specs.Each.{Each}
-use Rattle.paths.proofs.Within.{Within, within-refl, within-trans, within-seq, within-left, within-right, within-catch, Same, same-refl, same-trans, same-seq, same-skip, same-assoc}
+use Rattle.paths.proofs.Within.{Within, within-refl, within-trans, within-seq, within-left, within-right, within-catch, Same, same-refl, same-sym, same-trans, same-seq, same-skip, same-assoc}
+use Rattle.paths.proofs.AnyOrder.{InAnyOrder, in-any-order}
 use Rattle.paths.proofs.AnyLength.{in-turn, in-order-append}
-use Rattle.stmt_paths.specs.Execution.{Execution, oneByOne, hasDefault, noArm, allLabels, armsFrom, round, loop, executionOf}
+use Rattle.stmt_paths.specs.Execution.{Execution, oneByOne, hasDefault, noArm, allLabels, upToOne, matching, armsFrom, round, loop, executionOf}
 
 -- Rows of a block, arguments of a system task
 
 module _ (x : ℕ) (marks : ℕ → Bool) (s : ℕ) (cs : Forest) (held : List (List Evaluation)) where
   -- "Block: initialisers, then statements", however many
-  pub every-row : (es : List Evaluation) (before : List Execution) (r : Execution) (after : List Execution)
-      → Same (executionOf x marks Block s cs es held (before ++ (r ∷ after)) .run) (seq (oneByOne before) (seq (r .run) (oneByOne after)))
-  every-row es before r after = in-turn (λ q. q .run) oneByOne refl (λ q more. refl) before (r ∷ after)
+  pub every-row : (sem : Semantics) (es : List Evaluation) (before : List Execution) (r : Execution) (after : List Execution)
+      → Same (executionOf sem x marks Block s cs es held (before ++ (r ∷ after)) .run) (seq (oneByOne before) (seq (r .run) (oneByOne after)))
+  every-row sem es before r after = in-turn (λ q. q .run) oneByOne refl (λ q more. refl) before (r ∷ after)
 
   -- "A systask evaluates its arguments", however many
   pub every-systask-argument : (rs : List Execution) (before : List Evaluation) (e : Evaluation) (after : List Evaluation)
-      → Same (executionOf x marks Systask s cs (before ++ (e ∷ after)) held rs .run) (seq (inOrder before) (seq (e .value) (inOrder after)))
+      → Same (executionOf rowOrder x marks Systask s cs (before ++ (e ∷ after)) held rs .run) (seq (inOrder before) (seq (e .value) (inOrder after)))
   every-systask-argument rs before e after = in-order-append before (e ∷ after)
+
+  pub systask-in-any-order : (rs : List Execution) (es : List Evaluation) → InAnyOrder (values es) (executionOf freeOrder x marks Systask s cs es held rs .run)
+  systask-in-any-order rs es = in-any-order (values es)
 
 -- Arms of a case
 
@@ -39,10 +45,11 @@ abbrev pub labelsOf : List Execution → List Evaluation
 labelsOf [] = []
 labelsOf (r ∷ rs) = r .labels ++ labelsOf rs
 
--- "scrutinee, then labels in row order through the chosen arm's (all of them for a default ...), then that arm", by its number from 0
-abbrev pub choosesArm : Evaluation → List Execution → Execution → List Execution → Command
-choosesArm c before r after =
-    seq (c .value) (seq (emit (choice (length before))) (seq (inOrder (labelsOf (cond (r .isDefault) (before ++ (r ∷ after)) (before ++ (r ∷ []))))) (r .run)))
+-- "scrutinee, then labels in row order through the chosen arm's (all of them for a default ...), then that arm", by its number from 0;
+-- in free order "the labels of the chosen arm up to any one of them"
+abbrev pub choosesArm : Order → Evaluation → List Execution → Execution → List Execution → Command
+choosesArm o c before r after =
+    seq (c .value) (seq (emit (choice (length before))) (seq (cond (r .isDefault) (inOrder (labelsOf (before ++ (r ∷ after)))) (seq (inOrder (labelsOf before)) (matching o (r .labels)))) (r .run)))
 
 -- "all of them for ... no arm", by "the count of arms"
 abbrev pub choosesNone : Evaluation → List Execution → Command
@@ -53,66 +60,93 @@ abbrev pub NoDefault : List Execution → Type 0
 NoDefault = Each (λ r. r .isDefault ≡ false)
 
 -- a run of a case: by one of its arms, by none, or not past the scrutinee
-pub data CaseRun (c : Evaluation) (rs : List Execution) (t : List PathEvent) (o : Ending) : Type 0 where
-  of-arm : (before : List Execution) (r : Execution) (after : List Execution) → rs ≡ before ++ (r ∷ after) → Runs (choosesArm c before r after) t o → CaseRun c rs t o
-  of-none : NoDefault rs → Runs (choosesNone c rs) t o → CaseRun c rs t o
-  of-scrutinee : Runs (seq (c .value) (exit stops)) t o → CaseRun c rs t o
+pub data CaseRun (order : Order) (c : Evaluation) (rs : List Execution) (t : List PathEvent) (o : Ending) : Type 0 where
+  of-arm : (before : List Execution) (r : Execution) (after : List Execution) → rs ≡ before ++ (r ∷ after) → Runs (choosesArm order c before r after) t o → CaseRun order c rs t o
+  of-none : NoDefault rs → Runs (choosesNone c rs) t o → CaseRun order c rs t o
+  of-scrutinee : Runs (seq (c .value) (exit stops)) t o → CaseRun order c rs t o
 
 all-labels : (rs : List Execution) → Same (inOrder (labelsOf rs)) (allLabels rs)
 all-labels [] = same-refl
 all-labels (r ∷ rs) = same-trans (in-order-append (r .labels) (labelsOf rs)) (same-seq same-refl (all-labels rs))
 
--- arm number m + count of `before`, where the labels of `first` come first and those of all arms are `all`
-abbrev armFrom : ℕ → Command → Command → List Execution → Execution → Command
-armFrom m first all before r = seq (emit (choice (m + length before))) (seq (cond (r .isDefault) all (seq first (inOrder (labelsOf (before ++ (r ∷ [])))))) (r .run))
+-- the labels of the chosen arm in free order: up to each one of them, and nothing else
 
-arm-first : (m : ℕ) (first all : Command) (r : Execution) → Same (armFrom m first all [] r) (seq (emit (choice m)) (seq (cond (r .isDefault) all (seq first (inOrder (r .labels)))) (r .run)))
-arm-first m first all r = rw (add-zero m, append-nil (r .labels)) same-refl
+pub every-label : (before : List Evaluation) (e : Evaluation) (after : List Evaluation) → Within (inOrder (before ++ (e ∷ []))) (upToOne (before ++ (e ∷ after)))
+every-label [] e after = within-seq within-refl (within-left within-refl)
+every-label (b ∷ before) e after = within-seq within-refl (within-right (every-label before e after))
 
-arm-later : (m : ℕ) (first all : Command) (b : Execution) (before : List Execution) (r : Execution) → Same (armFrom m first all (b ∷ before) r) (armFrom (suc m) (seq first (inOrder (b .labels))) all before r)
-arm-later m first all b before r =
-    let e : m + suc (length before) ≡ suc m + length before = omega arith in
-    rw e (same-seq same-refl (same-seq (labels (r .isDefault)) same-refl))
+pub data LabelsRun (es : List Evaluation) (t : List PathEvent) (o : Ending) : Type 0 where
+  of-no-label : es ≡ [] → Runs skip t o → LabelsRun es t o
+  up-to-label : (before : List Evaluation) (e : Evaluation) (after : List Evaluation) → es ≡ before ++ (e ∷ after) → Runs (inOrder (before ++ (e ∷ []))) t o → LabelsRun es t o
+
+pub only-labels : (es : List Evaluation) (t : List PathEvent) (o : Ending) → Runs (upToOne es) t o → LabelsRun es t o
+only-labels [] t o x = of-no-label refl x
+only-labels (e ∷ es) _ _ run-stop = up-to-label [] e es refl run-stop
+only-labels (e ∷ es) _ _ (run-off i x) = up-to-label [] e es refl (run-off i x)
+only-labels (e ∷ es) _ _ (run-seq x run-stop) = up-to-label [] e es refl (run-seq x run-stop)
+only-labels (e ∷ es) _ _ (run-seq x (run-left y)) = up-to-label [] e es refl (run-seq x y)
+only-labels (e ∷ es) _ _ (run-seq {s = s} {t = t} {o = o} x (run-right y)) = later (only-labels es t o y)
   where
-    labels : (default : Bool) → Same (cond default all (seq first (inOrder (b .labels ++ labelsOf (before ++ (r ∷ [])))))) (cond default all (seq (seq first (inOrder (b .labels))) (inOrder (labelsOf (before ++ (r ∷ []))))))
-    labels true = same-refl
-    labels false = same-trans (same-seq same-refl (in-order-append (b .labels) (labelsOf (before ++ (r ∷ []))))) same-assoc
+    later : LabelsRun es t o → LabelsRun (e ∷ es) (s ++ t) o
+    later (of-no-label p z) = up-to-label [] e es refl (run-seq x z)
+    later (up-to-label before d after p z) = up-to-label (e ∷ before) d after (ap (λ l. e ∷ l) p) (run-seq x z)
+
+-- the arms from number m on, whichever is chosen: `first` are the labels that come first, `all` those of all arms
+module _ (o : Order) where
+  -- number m + count of `before`
+  abbrev armFrom : ℕ → Command → Command → List Execution → Execution → Command
+  armFrom m first all before r = seq (emit (choice (m + length before))) (seq (cond (r .isDefault) all (seq first (seq (inOrder (labelsOf before)) (matching o (r .labels))))) (r .run))
+
+  module _ (m : ℕ) (first all : Command) (r : Execution) where
+    by-default : (default : Bool) {c d : Command} → Same c d → Same (cond default all c) (cond default all d)
+    by-default true p = same-refl
+    by-default false p = p
+
+    arm-first : Same (seq (emit (choice m)) (seq (cond (r .isDefault) all (seq first (matching o (r .labels)))) (r .run))) (armFrom m first all [] r)
+    arm-first = rw (add-zero m) (same-seq same-refl (same-seq (by-default (r .isDefault) (same-seq same-refl same-skip)) same-refl))
+
+    arm-later : (b : Execution) (before : List Execution) → Same (armFrom m first all (b ∷ before) r) (armFrom (suc m) (seq first (inOrder (b .labels))) all before r)
+    arm-later b before =
+        let e : m + suc (length before) ≡ suc m + length before = omega arith in
+        rw e (same-seq same-refl (same-seq (by-default (r .isDefault) labels) same-refl))
+      where
+        labels : Same (seq first (seq (inOrder (b .labels ++ labelsOf before)) (matching o (r .labels)))) (seq (seq first (inOrder (b .labels))) (seq (inOrder (labelsOf before)) (matching o (r .labels))))
+        labels = same-trans (same-seq same-refl (same-trans (same-seq (in-order-append (b .labels) (labelsOf before)) same-refl) (same-sym same-assoc))) same-assoc
 
 none-later : (m : ℕ) (all : Command) (rs : List Execution) (default : Bool) → noArm default (m + suc (length rs)) all ≡ noArm default (suc m + length rs) all
 none-later m all rs default = let e : m + suc (length rs) ≡ suc m + length rs = omega arith in rw e
 
--- the arms from number m on, whichever is chosen
-module _ (all : Command) (default : Bool) where
-  arm-among : (m : ℕ) (first : Command) (before : List Execution) (r : Execution) (after : List Execution) → Within (armFrom m first all before r) (armsFrom m first all default (before ++ (r ∷ after)))
-  arm-among m first [] r after = within-trans (arm-first m first all r .forth) (within-left within-refl)
-  arm-among m first (b ∷ before) r after = within-trans (arm-later m first all b before r .forth) (within-right (arm-among (suc m) (seq first (inOrder (b .labels))) before r after))
+module _ (order : Order) (all : Command) (default : Bool) where
+  arm-among : (m : ℕ) (first : Command) (before : List Execution) (r : Execution) (after : List Execution) → Within (armFrom order m first all before r) (armsFrom order m first all default (before ++ (r ∷ after)))
+  arm-among m first [] r after = within-trans (arm-first order m first all r .back) (within-left within-refl)
+  arm-among m first (b ∷ before) r after = within-trans (arm-later order m first all r b before .forth) (within-right (arm-among (suc m) (seq first (inOrder (b .labels))) before r after))
 
-  none-among : (m : ℕ) (first : Command) (rs : List Execution) → Within (noArm default (m + length rs) all) (armsFrom m first all default rs)
+  none-among : (m : ℕ) (first : Command) (rs : List Execution) → Within (noArm default (m + length rs) all) (armsFrom order m first all default rs)
   none-among m first [] = rw (add-zero m) within-refl
   none-among m first (r ∷ rs) = rw (none-later m all rs default) (within-right (none-among (suc m) (seq first (inOrder (r .labels))) rs))
 
   data FromRun (m : ℕ) (first : Command) (rs : List Execution) (t : List PathEvent) (o : Ending) : Type 0 where
-    by-arm : (before : List Execution) (r : Execution) (after : List Execution) → rs ≡ before ++ (r ∷ after) → Runs (armFrom m first all before r) t o → FromRun m first rs t o
+    by-arm : (before : List Execution) (r : Execution) (after : List Execution) → rs ≡ before ++ (r ∷ after) → Runs (armFrom order m first all before r) t o → FromRun m first rs t o
     by-none : Runs (noArm default (m + length rs) all) t o → FromRun m first rs t o
 
-  from-run : (m : ℕ) (first : Command) (rs : List Execution) (t : List PathEvent) (o : Ending) → Runs (armsFrom m first all default rs) t o → FromRun m first rs t o
+  from-run : (m : ℕ) (first : Command) (rs : List Execution) (t : List PathEvent) (o : Ending) → Runs (armsFrom order m first all default rs) t o → FromRun m first rs t o
   from-run m first [] t o x = by-none (rw (add-zero m) x)
   from-run m first (r ∷ rs) _ _ run-stop = by-arm [] r rs refl run-stop
-  from-run m first (r ∷ rs) _ _ (run-left {s = t} {o = o} x) = by-arm [] r rs refl (arm-first m first all r .back .go t o x)
+  from-run m first (r ∷ rs) _ _ (run-left {s = t} {o = o} x) = by-arm [] r rs refl (arm-first order m first all r .forth .go t o x)
   from-run m first (r ∷ rs) _ _ (run-right {s = t} {o = o} x) = later (from-run (suc m) (seq first (inOrder (r .labels))) rs t o x)
     where
       later : FromRun (suc m) (seq first (inOrder (r .labels))) rs t o → FromRun m first (r ∷ rs) t o
-      later (by-arm before q after e y) = by-arm (r ∷ before) q after (ap (λ l. r ∷ l) e) (arm-later m first all r before q .back .go t o y)
+      later (by-arm before q after e y) = by-arm (r ∷ before) q after (ap (λ l. r ∷ l) e) (arm-later order m first all q r before .back .go t o y)
       later (by-none y) = by-none (rw (none-later m all rs default) y)
 
 -- the labels from the first on
-labels-through : (before : List Execution) (r : Execution) (after : List Execution) (default : Bool)
-    → Same (inOrder (labelsOf (cond default (before ++ (r ∷ after)) (before ++ (r ∷ []))))) (cond default (allLabels (before ++ (r ∷ after))) (seq skip (inOrder (labelsOf (before ++ (r ∷ []))))))
-labels-through before r after true = all-labels (before ++ (r ∷ after))
-labels-through before r after false = same-skip
+labels-through : (labels : Command) (rs : List Execution) (default : Bool) → Same (cond default (inOrder (labelsOf rs)) labels) (cond default (allLabels rs) (seq skip labels))
+labels-through labels rs true = all-labels rs
+labels-through labels rs false = same-skip
 
-arm-chosen : (c : Evaluation) (before : List Execution) (r : Execution) (after : List Execution) → Same (choosesArm c before r after) (seq (c .value) (armFrom 0 skip (allLabels (before ++ (r ∷ after))) before r))
-arm-chosen c before r after = rw (zero-add (length before)) (same-seq same-refl (same-seq same-refl (same-seq (labels-through before r after (r .isDefault)) same-refl)))
+arm-chosen : (o : Order) (c : Evaluation) (before : List Execution) (r : Execution) (after : List Execution) → Same (choosesArm o c before r after) (seq (c .value) (armFrom o 0 skip (allLabels (before ++ (r ∷ after))) before r))
+arm-chosen o c before r after =
+    rw (zero-add (length before)) (same-seq same-refl (same-seq same-refl (same-seq (labels-through (seq (inOrder (labelsOf before)) (matching o (r .labels))) (before ++ (r ∷ after)) (r .isDefault)) same-refl)))
 
 no-default : (rs : List Execution) → NoDefault rs → hasDefault rs ≡ false
 no-default [] n = refl
@@ -126,39 +160,39 @@ default-nowhere (r ∷ rs) e = go (r .isDefault) refl e (default-nowhere rs)
     go true p q h = absurd (true-not-false q)
     go false p q h = (p, h q)
 
-module _ (x : ℕ) (marks : ℕ → Bool) (s : ℕ) (cs : Forest) (es : List Evaluation) (held : List (List Evaluation)) where
+module _ (sem : Semantics) (x : ℕ) (marks : ℕ → Bool) (s : ℕ) (cs : Forest) (es : List Evaluation) (held : List (List Evaluation)) where
   -- the labels of an arm are all its expressions
-  pub match-labels : (body : Evaluation) (rs : List Execution) → executionOf x marks Match s cs (body ∷ es) held rs .labels ≡ es
+  pub match-labels : (body : Evaluation) (rs : List Execution) → executionOf sem x marks Match s cs (body ∷ es) held rs .labels ≡ es
   match-labels body rs = refl
 
   -- each arm can be chosen, and where no default stands, none
   module _ (c : Evaluation) (q : Execution) where
     abbrev caseRow : List Execution → Command
-    caseRow rs = executionOf x marks Case s cs (c ∷ es) held (q ∷ rs) .run
+    caseRow rs = executionOf sem x marks Case s cs (c ∷ es) held (q ∷ rs) .run
 
-    pub every-arm : (before : List Execution) (r : Execution) (after : List Execution) → Within (choosesArm c before r after) (caseRow (before ++ (r ∷ after)))
+    pub every-arm : (before : List Execution) (r : Execution) (after : List Execution) → Within (choosesArm (sem .order) c before r after) (caseRow (before ++ (r ∷ after)))
     every-arm before r after =
         let arms = before ++ (r ∷ after) in
-        within-trans (arm-chosen c before r after .forth) (within-seq within-refl (arm-among (allLabels arms) (hasDefault arms) 0 skip before r after))
+        within-trans (arm-chosen (sem .order) c before r after .forth) (within-seq within-refl (arm-among (sem .order) (allLabels arms) (hasDefault arms) 0 skip before r after))
 
     pub no-arm : (rs : List Execution) → NoDefault rs → Within (choosesNone c rs) (caseRow rs)
     no-arm rs n =
         within-seq within-refl
         (rw (no-default rs n)
-        (within-trans (within-seq within-refl (all-labels rs .forth)) (rw (zero-add (length rs)) at (none-among (allLabels rs) false 0 skip rs))))
+        (within-trans (within-seq within-refl (all-labels rs .forth)) (rw (zero-add (length rs)) at (none-among (sem .order) (allLabels rs) false 0 skip rs))))
 
     -- and nothing else
-    pub only-arms : (rs : List Execution) (t : List PathEvent) (o : Ending) → Runs (caseRow rs) t o → CaseRun c rs t o
+    pub only-arms : (rs : List Execution) (t : List PathEvent) (o : Ending) → Runs (caseRow rs) t o → CaseRun (sem .order) c rs t o
     only-arms rs _ _ run-stop = of-scrutinee run-stop
     only-arms rs _ _ (run-off i y) = of-scrutinee (run-off i y)
-    only-arms rs _ _ (run-seq {s = u} {t = t} {o = o} y z) = chosen (from-run (allLabels rs) (hasDefault rs) 0 skip rs t o z)
+    only-arms rs _ _ (run-seq {s = u} {t = t} {o = o} y z) = chosen (from-run (sem .order) (allLabels rs) (hasDefault rs) 0 skip rs t o z)
       where
-        none : (d : Bool) → hasDefault rs ≡ d → Runs (noArm d (0 + length rs) (allLabels rs)) t o → CaseRun c rs (u ++ t) o
+        none : (d : Bool) → hasDefault rs ≡ d → Runs (noArm d (0 + length rs) (allLabels rs)) t o → CaseRun (sem .order) c rs (u ++ t) o
         none true e w = of-scrutinee (run-seq y w)
         none false e w = of-none (default-nowhere rs e) (run-seq y (within-seq within-refl (all-labels rs .back) .go t o (rw (zero-add (length rs)) at w)))
 
-        chosen : FromRun (allLabels rs) (hasDefault rs) 0 skip rs t o → CaseRun c rs (u ++ t) o
-        chosen (by-arm before r after e w) = of-arm before r after e (arm-chosen c before r after .back .go (u ++ t) o (run-seq y (rw e at w)))
+        chosen : FromRun (sem .order) (allLabels rs) (hasDefault rs) 0 skip rs t o → CaseRun (sem .order) c rs (u ++ t) o
+        chosen (by-arm before r after e w) = of-arm before r after e (arm-chosen (sem .order) c before r after .back .go (u ++ t) o (run-seq y (rw e at w)))
         chosen (by-none w) = none (hasDefault rs) refl w
 
 -- Rounds

@@ -10,7 +10,7 @@ use native.Mathlib.Omega.{arith}
 use lib.Dec.{eqb}
 use borrow.Author.Tests.{eqb-true, ne-eqb, eqb-false, not-true}
 use Rattle.table.specs.Rows.{Forest, rest}
-use Rattle.table.specs.Fold.{fold, nth, Pairwise, no-pair, pair}
+use Rattle.table.specs.Fold.{Alg, fold, nth, Pairwise, no-pair, pair}
 use Rattle.table.proofs.Fold.{fold-related}
 use Rattle.kinds.specs.Kinds.{kinds}
 use Rattle.kinds.specs.Words.{same, placeFrom, kindOf}
@@ -24,7 +24,7 @@ use Rattle.reads.specs.Mentions.{roleOf, hasIff, refers}
 use Rattle.reads.specs.Iffs.{iffHere, every, iffAt, iffQuiet}
 use Rattle.paths.specs.Each.{Each}
 use Rattle.paths.proofs.Listed.{each-parts}
-use Rattle.stmt_paths.specs.Premises.{Place, PlacedRow, placeOf, placedBelow, placedAt, placedTogether, placedRows, inLoopBody, inInitOrStep, refersEach, plainEach, nonblockingHolds, rowHolds, nowhere, at-row, firstFalse, firstFailing, noRow, rowOf, IsA, RowPremises, Premises}
+use Rattle.stmt_paths.specs.Premises.{Place, PlacedRow, placeOf, placedBelow, placedAt, placedTogether, placedRows, inLoopBody, inInitOrStep, refersEach, plainEach, nonblockingHolds, nonblockingHere, nonblockingAt, nonblockingQuiet, rowHolds, nowhere, at-row, firstFalse, firstFailing, noRow, rowOf, IsA, RowPremises, Premises}
 
 -- One row
 
@@ -238,14 +238,10 @@ no-iff k e =
     is : String → Bool
     is word = eqb k (numbered word)
 
--- what the premise on iff says of a row
-record IffHolds (x : ℕ) (r : PlacedRow) : Type 0 where
-  is : iffHere x (exprClass (r .kind)) (r .children) ≡ true
-
 -- "and iff never refer to it", by the word `event` and by the class of it
-iff-holds : (x : ℕ) (marks : ℕ → Bool) (r : PlacedRow) → RowPremises x marks r → IffHolds x r
+iff-holds : (x : ℕ) (marks : ℕ → Bool) (r : PlacedRow) → RowPremises x marks r → iffHere x (exprClass (r .kind)) (r .children) ≡ true
 unfolding iffHere
-iff-holds x marks r p = record { is = go (eqb (r .kind) (numbered "event")) refl }
+iff-holds x marks r p = go (eqb (r .kind) (numbered "event")) refl
   where
     unreferred : (b c : Bool) → c ≡ false → not (b && c) ≡ true
     unreferred true c e = rw e
@@ -261,33 +257,55 @@ module _ {A : Type 0} (P : A → Type 0) where
   each-at d [] h = tt
   each-at d (x ∷ xs) h = (h 0, each-at d xs (λ n. h (suc n)))
 
-module _ (x : ℕ) where
-  -- the test of the iffs passes where it does at a row and at each row below it, wherever they stand
+-- a test of each row by its kind and children, and the same of a row and the rows below it
+module _ (here : ℕ → Forest → Bool) (below : Alg Bool) (both : (k s lo hi : ℕ) (cs : Forest) (bs : List Bool) → below k s lo hi cs bs ≡ here k cs && every bs) where
+  record Holds (r : PlacedRow) : Type 0 where
+    is : here (r .kind) (r .children) ≡ true
+
+  -- the test passes where it does at a row and at each row below it, wherever they stand
   record Passes (m : List Place → List PlacedRow) (b : Bool) : Type 0 where
-    go : (above : List Place) → Each (IffHolds x) (m above) → b ≡ true
+    go : (above : List Place) → Each Holds (m above) → b ≡ true
 
   -- so of the rows below a row, of siblings together, and of a row with what it holds
-  passes-below : (k i : ℕ) (above : List Place) {ms : List (List Place → List PlacedRow)} {bs : List Bool} → Pairwise Passes ms bs → Each (IffHolds x) (placedBelow k i above ms) → every bs ≡ true
+  passes-below : (k i : ℕ) (above : List Place) {ms : List (List Place → List PlacedRow)} {bs : List Bool} → Pairwise Passes ms bs → Each Holds (placedBelow k i above ms) → every bs ≡ true
   unfolding placedBelow every
   passes-below k i above no-pair h = refl
   passes-below k i above (pair {x = m} {xs = ms} p ps) h =
-      let hs = each-parts (IffHolds x) (m (placeOf k i ∷ above)) (placedBelow k (suc i) above ms) h in
+      let hs = each-parts Holds (m (placeOf k i ∷ above)) (placedBelow k (suc i) above ms) h in
       rw (p .go (placeOf k i ∷ above) (hs .0), passes-below k (suc i) above ps (hs .1))
 
-  passes-together : {ms : List (List Place → List PlacedRow)} {bs : List Bool} → Pairwise Passes ms bs → Each (IffHolds x) (placedTogether ms) → every bs ≡ true
+  passes-together : {ms : List (List Place → List PlacedRow)} {bs : List Bool} → Pairwise Passes ms bs → Each Holds (placedTogether ms) → every bs ≡ true
   unfolding placedTogether every
   passes-together no-pair h = refl
   passes-together (pair {x = m} {xs = ms} p ps) h =
-      let hs = each-parts (IffHolds x) (m []) (placedTogether ms) h in
+      let hs = each-parts Holds (m []) (placedTogether ms) h in
       rw (p .go [] (hs .0), passes-together ps (hs .1))
 
-  passes-row : (k s lo hi : ℕ) (cs : Forest) → Pairwise Passes (fold placedAt cs) (fold (iffAt x) cs) → Passes (placedAt k s lo hi cs (fold placedAt cs)) (iffAt x k s lo hi cs (fold (iffAt x) cs))
-  unfolding placedAt iffAt
-  passes-row k s lo hi cs ps = record { go = λ above h. rw (h .0 .is, passes-below k 0 above ps (h .1)) }
+  passes-row : (k s lo hi : ℕ) (cs : Forest) → Pairwise Passes (fold placedAt cs) (fold below cs) → Passes (placedAt k s lo hi cs (fold placedAt cs)) (below k s lo hi cs (fold below cs))
+  unfolding placedAt
+  passes-row k s lo hi cs ps = record { go = λ above h. rw (both k s lo hi cs (fold below cs), h .0 .is, passes-below k 0 above ps (h .1)) }
 
-  -- the premises of demand 3 have in them the one on iff that the laws of references speak of
-  pub premises-iff : (marks : ℕ → Bool) (f : Forest) → Premises x marks f → iffQuiet x f ≡ true
-  unfolding iffQuiet placedRows
-  premises-iff marks f p =
-      passes-together (fold-related placedAt (iffAt x) passes-row f)
-      (each-at (IffHolds x) noRow (placedRows f) (λ n. iff-holds x marks (rowOf f n) (p .row n)))
+  every-row : (f : Forest) → ((n : ℕ) → here (rowOf f n .kind) (rowOf f n .children) ≡ true) → every (fold below f) ≡ true
+  unfolding placedRows
+  every-row f h = passes-together (fold-related placedAt below passes-row f) (each-at Holds noRow (placedRows f) (λ n. record { is = h n }))
+
+-- the premises of demand 3 have in them the one on iff that the laws of references speak of
+pub premises-iff : (x : ℕ) (marks : ℕ → Bool) (f : Forest) → Premises x marks f → iffQuiet x f ≡ true
+unfolding iffQuiet iffAt
+premises-iff x marks f p = every-row (λ k cs. iffHere x (exprClass k) cs) (iffAt x) (λ k s lo hi cs bs. refl) f (λ n. iff-holds x marks (rowOf f n) (p .row n))
+
+-- and those on nonblocking rows
+nonblocking-holds : (x : ℕ) (marks : ℕ → Bool) (r : PlacedRow) → RowPremises x marks r → nonblockingHere x (r .kind) (r .children) ≡ true
+unfolding nonblockingHere
+nonblocking-holds x marks r p = go (eqb (r .kind) (numbered "nonblocking")) refl
+  where
+    all-three : (a b p q : Bool) → a ≡ false → b ≡ false → (p ≡ true) ⊎ (q ≡ false) → not a && (not b && (p || not q)) ≡ true
+    all-three a b p q e f h = rw (e, f) (or-either p q h)
+
+    go : (b : Bool) → eqb (r .kind) (numbered "nonblocking") ≡ b → cond b (nonblockingHolds (refersEach x (r .children)) (plainEach x (r .children))) true ≡ true
+    go true e = let w = eqb-true (r .kind) (numbered "nonblocking") e in all-three _ _ _ _ (p .delays w) (p .intras w) (p .targets w)
+    go false e = refl
+
+pub premises-nonblocking : (x : ℕ) (marks : ℕ → Bool) (f : Forest) → Premises x marks f → nonblockingQuiet x f ≡ true
+unfolding nonblockingQuiet nonblockingAt
+premises-nonblocking x marks f p = every-row (nonblockingHere x) (nonblockingAt x) (λ k s lo hi cs bs. refl) f (λ n. nonblocking-holds x marks (rowOf f n) (p .row n))

@@ -1,5 +1,6 @@
 -- How a statement runs: document 01, "How a path runs", and document 02, Paper 2, with the clauses of IEEE 1800 that fix it in
--- brackets. Definitions only. Nothing here is written from the Rust. A choice has the number by which document 02, Paper 6, tells it.
+-- brackets. Where these leave the order open, row order is document 01's and free order is every one. Definitions only. Nothing here
+-- is written from the Rust. A choice has the number by which document 02, Paper 6, tells it.
 use mathlib.Core.List.{List, [], _∷_}
 use mathlib.Core.Bool.{Bool, true, false, cond, _&&_, _||_, not}
 use Prim.Native.Nat.{ℕ, suc}
@@ -13,7 +14,9 @@ use Rattle.reads.specs.declared.Iff.the-variants.{Held}
 use Rattle.reads.specs.PathRows.{begins, segments, isLoopJump}
 use Rattle.reads.specs.Mentions.{refers}
 use Rattle.paths.specs.Commands.{PathEvent, read, write, outside, choice, Ending, stops, leaves, again, out-of-loop, out-of-round, Command, skip, emit, exit, seq, alt, star, catch, Runs}
-use Rattle.paths.specs.Evaluation.{is-true, Evaluation, notTrue, inOrder, noEvaluation, evaluations}
+use Rattle.paths.specs.Semantics.{Order, row-order, free-order, Semantics}
+use Rattle.paths.specs.AnyOrder.{anyOrder}
+use Rattle.paths.specs.Evaluation.{is-true, Evaluation, notTrue, inOrder, together, writeIf, noEvaluation, evaluations}
 
 -- how a row runs that is a statement, a declaration or an arm of a case
 pub record Execution : Type 0 where
@@ -60,18 +63,28 @@ abbrev pub noArm : Bool → ℕ → Command → Command
 noArm true n all = exit stops
 noArm false n all = seq (emit (choice n)) all
 
+-- the first of these labels, or more of them: a tool stops at the one that matches (12.5)
+abbrev pub upToOne : List Evaluation → Command
+upToOne [] = skip
+upToOne (e ∷ es) = seq (e .value) (alt skip (upToOne es))
+
+-- the labels of the chosen arm: "through the chosen arm's", or up to any one of them
+abbrev pub matching : Order → List Evaluation → Command
+matching row-order es = inOrder es
+matching free-order es = upToOne es
+
 -- the arms from number n on: the choice of one, then "labels in row order through the chosen arm's (all of them for a default ...),
 -- then that arm"; the labels of the arms before these come first
-abbrev pub armsFrom : ℕ → Command → Command → Bool → List Execution → Command
-armsFrom n before all default [] = noArm default n all
-armsFrom n before all default (r ∷ rs) =
+abbrev pub armsFrom : Order → ℕ → Command → Command → Bool → List Execution → Command
+armsFrom o n before all default [] = noArm default n all
+armsFrom o n before all default (r ∷ rs) =
     alt
-    (seq (emit (choice n)) (seq (cond (r .isDefault) all (seq before (inOrder (r .labels)))) (r .run)))
-    (armsFrom (suc n) (seq before (inOrder (r .labels))) all default rs)
+    (seq (emit (choice n)) (seq (cond (r .isDefault) all (seq before (matching o (r .labels)))) (r .run)))
+    (armsFrom o (suc n) (seq before (inOrder (r .labels))) all default rs)
 
 -- "Case: scrutinee, then labels ..., then that arm" (12.5)
-abbrev pub caseOf : Evaluation → List Execution → Command
-caseOf c rs = seq (c .value) (armsFrom 0 skip (allLabels rs) (hasDefault rs) rs)
+abbrev pub caseOf : Order → Evaluation → List Execution → Command
+caseOf o c rs = seq (c .value) (armsFrom o 0 skip (allLabels rs) (hasDefault rs) rs)
 
 -- one round: what comes before the body, the body, the step; a jump may leave "only its round" (12.8: continue jumps to the end
 -- of the loop body)
@@ -114,61 +127,75 @@ byEffect effect = cond (eqb effect 0) skip (cond (eqb effect 1) (emit write) (em
 abbrev pub waitFor : Evaluation → Command → Command
 waitFor c body = alt (seq (c .truth is-true) body) (seq (unmet c) (exit stops))
 
--- "Assignment: right side, delay, event, target selects, then the write if the target is the plain local" (10.4.1, 9.4.5)
-abbrev pub assignment : List Evaluation → Evaluation → Evaluation → Evaluation → Command
-assignment delays event target right = seq (right .value) (seq (inOrder delays) (seq (event .value) (target .store)))
+-- "Assignment: right side, delay, event, target selects, then the write if the target is the plain local" (10.4.1, 9.4.5); in free
+-- order these four in any, "all before its write"
+abbrev pub assignment : Order → List Evaluation → Evaluation → Evaluation → Evaluation → Command
+assignment row-order delays event target right = seq (right .value) (seq (inOrder delays) (seq (event .value) (target .store)))
+assignment free-order delays event target right =
+    seq (anyOrder (right .value ∷ together free-order delays ∷ event .value ∷ target .value ∷ [])) (writeIf (target .isPlainLocal))
+
+-- or not
+abbrev pub orNot : Command → Command
+orNot c = alt c skip
+
+-- "Nonblocking: right side only" (10.4.2); in free order also delay, event and selects, "each as one whole child that is evaluated or
+-- not": a tool may evaluate them at the statement (4.9.4)
+abbrev pub nonblocking : Order → List Evaluation → Evaluation → Evaluation → Evaluation → Command
+nonblocking row-order delays event target right = right .value
+nonblocking free-order delays event target right =
+    anyOrder (right .value ∷ orNot (together free-order delays) ∷ orNot (event .value) ∷ orNot (target .value) ∷ [])
 
 -- a row from its class, side, children, their evaluations, the evaluations of what each child holds, and their executions.
--- "Nonblocking: right side only" (10.4.2). "Return evaluates its value and ends the path" (12.8). "A systask evaluates its
+-- "Return evaluates its value and ends the path" (12.8). "A systask evaluates its
 -- arguments; null does nothing" (20, A.6.4). Delay and event control: 9.4.1, 9.4.2. "Fork counts as a read" (9.3.2), "and so do the
 -- unmodelled forms".
-abbrev pub executionOf : ℕ → (ℕ → Bool) → StmtClass → ℕ → Forest → List Evaluation → List (List Evaluation) → List Execution → Execution
-executionOf x marks Match s cs es held rs = record { run = nth noExecution 0 rs .run; labels = tail es; isDefault = false }
-executionOf x marks Default s cs es held rs = record { run = nth noExecution 0 rs .run; labels = []; isDefault = true }
-executionOf x marks Decl s cs es held rs = plain (nth noEvaluation 0 es .value)
-executionOf x marks Blocking s cs es held rs = plain (assignment (nth [] 0 held) (nth noEvaluation 1 es) (nth noEvaluation 2 es) (nth noEvaluation 3 es))
-executionOf x marks Nonblocking s cs es held rs = plain (nth noEvaluation 3 es .value)
-executionOf x marks If s cs es held rs = plain (ifElse (nth noEvaluation 0 es) (nth noExecution 1 rs) (nth noExecution 2 rs))
-executionOf x marks Return s cs es held rs = plain (seq (nth noEvaluation 0 es .value) (exit stops))
-executionOf x marks Case s cs es held rs = plain (caseOf (nth noEvaluation 0 es) (tail rs))
-executionOf x marks For s cs es held rs = plain (seq (nth noExecution 0 rs .run) (whileTrue s (nth noEvaluation 1 es) (nth noExecution 3 rs .run) (nth noExecution 2 rs .run)))
-executionOf x marks While s cs es held rs = plain (whileTrue s (nth noEvaluation 0 es) (nth noExecution 1 rs .run) skip)
-executionOf x marks Repeat s cs es held rs = plain (seq (nth noEvaluation 0 es .value) (repeated s (nth noExecution 1 rs .run) (emit (choice 0))))
-executionOf x marks Forever s cs es held rs = plain (repeated s (nth noExecution 0 rs .run) (exit stops))
-executionOf x marks Block s cs es held rs = plain (oneByOne rs)
-executionOf x marks Fork s cs es held rs = plain (emit outside)
-executionOf x marks Systask s cs es held rs = plain (inOrder es)
-executionOf x marks Task s cs es held rs = plain (cond (isPassedOver x cs) skip (byEffect (taskEffect s)))
-executionOf x marks Delayctrl s cs es held rs = plain (seq (inOrder (nth [] 0 held)) (nth noExecution 1 rs .run))
-executionOf x marks Eventctrl s cs es held rs = plain (seq (nth noEvaluation 0 es .value) (nth noExecution 1 rs .run))
-executionOf x marks Wait s cs es held rs = plain (waitFor (nth noEvaluation 0 es) (nth noExecution 1 rs .run))
-executionOf x marks Disable s cs es held rs = plain (jump (isLoopJump marks cs))
-executionOf x marks Null s cs es held rs = plain skip
-executionOf x marks Unmodelled s cs es held rs = plain (emit outside)
-executionOf x marks Absent s cs es held rs = noExecution
-executionOf x marks NoStmt s cs es held rs = noExecution
+abbrev pub executionOf : Semantics → ℕ → (ℕ → Bool) → StmtClass → ℕ → Forest → List Evaluation → List (List Evaluation) → List Execution → Execution
+executionOf sem x marks Match s cs es held rs = record { run = nth noExecution 0 rs .run; labels = tail es; isDefault = false }
+executionOf sem x marks Default s cs es held rs = record { run = nth noExecution 0 rs .run; labels = []; isDefault = true }
+executionOf sem x marks Decl s cs es held rs = plain (nth noEvaluation 0 es .value)
+executionOf sem x marks Blocking s cs es held rs = plain (assignment (sem .order) (nth [] 0 held) (nth noEvaluation 1 es) (nth noEvaluation 2 es) (nth noEvaluation 3 es))
+executionOf sem x marks Nonblocking s cs es held rs = plain (nonblocking (sem .order) (nth [] 0 held) (nth noEvaluation 1 es) (nth noEvaluation 2 es) (nth noEvaluation 3 es))
+executionOf sem x marks If s cs es held rs = plain (ifElse (nth noEvaluation 0 es) (nth noExecution 1 rs) (nth noExecution 2 rs))
+executionOf sem x marks Return s cs es held rs = plain (seq (nth noEvaluation 0 es .value) (exit stops))
+executionOf sem x marks Case s cs es held rs = plain (caseOf (sem .order) (nth noEvaluation 0 es) (tail rs))
+executionOf sem x marks For s cs es held rs = plain (seq (nth noExecution 0 rs .run) (whileTrue s (nth noEvaluation 1 es) (nth noExecution 3 rs .run) (nth noExecution 2 rs .run)))
+executionOf sem x marks While s cs es held rs = plain (whileTrue s (nth noEvaluation 0 es) (nth noExecution 1 rs .run) skip)
+executionOf sem x marks Repeat s cs es held rs = plain (seq (nth noEvaluation 0 es .value) (repeated s (nth noExecution 1 rs .run) (emit (choice 0))))
+executionOf sem x marks Forever s cs es held rs = plain (repeated s (nth noExecution 0 rs .run) (exit stops))
+executionOf sem x marks Block s cs es held rs = plain (oneByOne rs)
+executionOf sem x marks Fork s cs es held rs = plain (emit outside)
+executionOf sem x marks Systask s cs es held rs = plain (together (sem .order) es)
+executionOf sem x marks Task s cs es held rs = plain (cond (isPassedOver x cs) skip (byEffect (taskEffect s)))
+executionOf sem x marks Delayctrl s cs es held rs = plain (seq (together (sem .order) (nth [] 0 held)) (nth noExecution 1 rs .run))
+executionOf sem x marks Eventctrl s cs es held rs = plain (seq (nth noEvaluation 0 es .value) (nth noExecution 1 rs .run))
+executionOf sem x marks Wait s cs es held rs = plain (waitFor (nth noEvaluation 0 es) (nth noExecution 1 rs .run))
+executionOf sem x marks Disable s cs es held rs = plain (jump (isLoopJump marks cs))
+executionOf sem x marks Null s cs es held rs = plain skip
+executionOf sem x marks Unmodelled s cs es held rs = plain (emit outside)
+executionOf sem x marks Absent s cs es held rs = noExecution
+executionOf sem x marks NoStmt s cs es held rs = noExecution
 
 -- the evaluations of what a row holds: of a delay's, those of its expressions
-unfoldable pub heldAt : ℕ → Alg (List Evaluation)
-heldAt x k s lo hi cs held = evaluations x cs
+unfoldable pub heldAt : Semantics → ℕ → Alg (List Evaluation)
+heldAt sem x k s lo hi cs held = evaluations sem x cs
 
 -- of each of these siblings
-abbrev pub heldEvaluations : ℕ → Forest → List (List Evaluation)
-heldEvaluations x = fold (heldAt x)
+abbrev pub heldEvaluations : Semantics → ℕ → Forest → List (List Evaluation)
+heldEvaluations sem x = fold (heldAt sem x)
 
 -- a row by its kind number
-unfoldable pub executionAt : ℕ → (ℕ → Bool) → Alg Execution
-executionAt x marks k s lo hi cs rs = executionOf x marks (stmtClass k) s cs (evaluations x cs) (heldEvaluations x cs) rs
+unfoldable pub executionAt : Semantics → ℕ → (ℕ → Bool) → Alg Execution
+executionAt sem x marks k s lo hi cs rs = executionOf sem x marks (stmtClass k) s cs (evaluations sem x cs) (heldEvaluations sem x cs) rs
 
 -- how each of these siblings runs, for the local x and the names that are marked as jumps
-abbrev pub executions : ℕ → (ℕ → Bool) → Forest → List Execution
-executions x marks = fold (executionAt x marks)
+abbrev pub executions : Semantics → ℕ → (ℕ → Bool) → Forest → List Execution
+executions sem x marks = fold (executionAt sem x marks)
 
 -- "A path starts at row 0": what row 0 does
-abbrev pub executed : ℕ → (ℕ → Bool) → Forest → Command
-executed x marks f = nth noExecution 0 (executions x marks f) .run
+abbrev pub executed : Semantics → ℕ → (ℕ → Bool) → Forest → Command
+executed sem x marks f = nth noExecution 0 (executions sem x marks f) .run
 
 -- "and is the list of the reads and writes named here", with the choices
-pub record IsPath (x : ℕ) (marks : ℕ → Bool) (f : Forest) (t : List PathEvent) : Type 0 where
+pub record IsPath (sem : Semantics) (x : ℕ) (marks : ℕ → Bool) (f : Forest) (t : List PathEvent) : Type 0 where
   pub ending : Ending
-  pub runs : Runs (executed x marks f) t ending
+  pub runs : Runs (executed sem x marks f) t ending

@@ -13,6 +13,7 @@ use Rattle.kinds.specs.Named.{numbered}
 use Rattle.reads.specs.declared.Iff.the-variants.{Held}
 use Rattle.reads.specs.PathRows.{isLocal, isLoopJump}
 use Rattle.reads.specs.Mentions.{refers}
+use Rattle.reads.specs.Iffs.{every}
 
 -- what a child's place means for a disable below it
 pub data Place : Type 0 where
@@ -85,6 +86,18 @@ plainEach x = fold (plainAt x)
 -- to it"; of the children "delay? intra? L E"
 abbrev pub nonblockingHolds : List Bool → List Bool → Bool
 nonblockingHolds refer plain = not (nth false 0 refer) && (not (nth false 1 refer) && (nth false 2 plain || not (nth false 2 refer)))
+
+-- of a row of any kind
+unfoldable pub nonblockingHere : ℕ → ℕ → Forest → Bool
+nonblockingHere x k cs = cond (eqb k (numbered "nonblocking")) (nonblockingHolds (refersEach x cs) (plainEach x cs)) true
+
+-- and the rows below it
+unfoldable pub nonblockingAt : ℕ → Alg Bool
+nonblockingAt x k s lo hi cs bs = nonblockingHere x k cs && every bs
+
+-- the premises of demand 3 on nonblocking rows, of all rows of these siblings
+unfoldable pub nonblockingQuiet : ℕ → Forest → Bool
+nonblockingQuiet x f = every (fold (nonblockingAt x) f)
 
 -- the test of one row, by the word of its kind; "an inner declaration is a decl"
 unfoldable pub rowHolds : ℕ → (ℕ → Bool) → PlacedRow → Bool
