@@ -3,3 +3,4 @@ pub mod AnyLength
 pub mod PremiseTest
 pub mod Numbering
 pub mod Strength
+pub mod RowAmongFree
