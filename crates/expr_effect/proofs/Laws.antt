@@ -17,13 +17,16 @@ use Rattle.reads.specs.PathRows.{isLocal}
 use Rattle.reads.specs.Mentions.{refers}
 use Rattle.reads.specs.Iffs.{iffQuiet}
 use Rattle.reads.proofs.Trees.{refers-node, quiet-children, quiet-others, quiet-alone, refers-quiet}
-use Rattle.paths.specs.Marks.{full, none}
+use Rattle.paths.specs.Marks.{full, none, none-⊑}
 use Rattle.paths.specs.Commands.{Command, write, emit, seq, alt}
 use Rattle.paths.specs.Triples.{Triple, at, never}
-use Rattle.paths.specs.Evaluation.{Evaluation, Truth, is-true, is-false, is-unknown, opposite, free, asked, both, either, conditional, writeIf, noEvaluation, evaluationOf, evaluationAt, evaluations}
+use Rattle.paths.specs.Evaluation.{Evaluation, Truth, is-true, is-false, is-unknown, opposite, free, asked, both, either, conditional, writeIf, target, noEvaluation, evaluationOf, evaluationAt, evaluations}
+use Rattle.paths.specs.Semantics.{Order, Semantics}
+use Rattle.paths.specs.AnyOrder.{eitherFirst}
 use Rattle.paths.specs.Evaluates.{Meets, Evaluates}
 use Rattle.paths.proofs.Rules.{rule-skip, rule-write, rule-seq, rule-alt}
-use Rattle.paths.proofs.Evaluating.{evaluates-forget, evaluates-free, evaluates-asked, chain, chain-triple, conditional-triple}
+use Rattle.paths.proofs.AnyOrder.{rule-either-first, rule-first-gains, rule-second-gains}
+use Rattle.paths.proofs.Evaluating.{evaluates-forget, evaluates-free, evaluates-asked, chain, chain-triple, conditional-triple, write-keeps}
 use Rattle.paths.proofs.Built.{calm-row, quiet-row, silent-row, silent-none}
 use Rattle.effect_rules.specs.declared.ExprDa.{ExprDa}
 use Rattle.effect_rules.specs.declared.ExprDa.the-variants.{Clean, Writes, Reads}
@@ -34,7 +37,7 @@ use Rattle.effect_rules.specs.declared.Form.the-variants.{Inner, LogNot, Operan
 use Rattle.effect_rules.specs.Rules.{unaryForm, binaryForm, callForm, formOf, join, shortCircuit, oneArm, afterCond, writesWhen, effectOf, operandsWrite, selfGuarded, combined, guarded, noEffect, noRowEffect}
 use Rattle.expr_effect.specs.Effect.{exprEffectAt, exprEffects, exprEffectOf, exprDa, unguarded}
 use Rattle.expr_effect.proofs.Operands.{unguarded-none, effect-first}
-use Rattle.expr_effect.specs.Law.{EffectLaw, WhenLaw, isPlain, factsAt, exprFacts, noFacts, NoneRefer, none-left, and-more, ExprLaw, EffectTold, DaTold}
+use Rattle.expr_effect.specs.Law.{EffectLaw, WhenLaw, isPlain, factsAt, exprFacts, noFacts, NoneRefer, none-left, and-more, PlainLaw, ExprLaw, EffectTold, DaTold}
 
 -- what the effect and the writing on an outcome say of an evaluation
 record Sound (o : ExprEffect) (e : Evaluation) : Type 0 where
@@ -98,14 +101,14 @@ flip-meets false is-unknown q = q
 
 -- both operands of a binary operator
 
-join-effect : (d e : ExprDa) (l r : Evaluation) → Evaluates full full r → EffectLaw d l → EffectLaw e r → EffectLaw (join d e) (free (seq (l .value) (r .value)))
-join-effect Reads e l r k p q = tt
-join-effect Writes Reads l r k p q = tt
-join-effect Writes Writes l r k p q = evaluates-free (rule-seq (p .value) (k .value))
-join-effect Writes Clean l r k p q = evaluates-free (rule-seq (p .value) (k .value))
-join-effect Clean Reads l r k p q = tt
-join-effect Clean Writes l r k p q = evaluates-free (rule-seq (p .value) (q .value))
-join-effect Clean Clean l r k p q = evaluates-free (rule-seq (p .value) (q .value))
+join-effect : (o : Order) (d e : ExprDa) (l r : Evaluation) → EffectLaw d l → EffectLaw e r → EffectLaw (join d e) (free (eitherFirst o (l .value) (r .value)))
+join-effect o Reads e l r p q = tt
+join-effect o Writes Reads l r p q = tt
+join-effect o Writes Writes l r p q = evaluates-free (rule-first-gains o none-⊑ (p .value) (evaluates-forget q .value))
+join-effect o Writes Clean l r p q = evaluates-free (rule-first-gains o none-⊑ (p .value) (q .value))
+join-effect o Clean Reads l r p q = tt
+join-effect o Clean Writes l r p q = evaluates-free (rule-second-gains o none-⊑ (p .value) (q .value))
+join-effect o Clean Clean l r p q = evaluates-free (rule-either-first o (p .value) (q .value))
 
 -- && and ||: `want` is the outcome of the left whose opposite alone keeps the right from being evaluated
 
@@ -156,24 +159,24 @@ module _ (u v : Bool) {l r : Evaluation} (p : Evaluates none none l) (k : Evalua
 
 -- a conditional
 
-module _ (l r : Evaluation) (kl : Evaluates full full l) (kr : Evaluates full full r) (c : Evaluation) where
-  arms-effect : (d e : ExprDa) → Evaluates none none c → EffectLaw d l → EffectLaw e r → EffectLaw (oneArm d e) (free (conditional c l r))
+module _ (o : Order) (l r : Evaluation) (kl : Evaluates full full l) (kr : Evaluates full full r) (c : Evaluation) where
+  arms-effect : (d e : ExprDa) → Evaluates none none c → EffectLaw d l → EffectLaw e r → EffectLaw (oneArm d e) (free (conditional o c l r))
   arms-effect Reads e h p q = tt
   arms-effect Writes Reads h p q = tt
-  arms-effect Writes Writes h p q = evaluates-free (conditional-triple h (evaluates-forget p) (evaluates-forget q))
-  arms-effect Writes Clean h p q = evaluates-free (conditional-triple h (evaluates-forget p) q)
+  arms-effect Writes Writes h p q = evaluates-free (conditional-triple o h (evaluates-forget p) (evaluates-forget q))
+  arms-effect Writes Clean h p q = evaluates-free (conditional-triple o h (evaluates-forget p) q)
   arms-effect Clean Reads h p q = tt
-  arms-effect Clean Writes h p q = evaluates-free (conditional-triple h p (evaluates-forget q))
-  arms-effect Clean Clean h p q = evaluates-free (conditional-triple h p q)
+  arms-effect Clean Writes h p q = evaluates-free (conditional-triple o h p (evaluates-forget q))
+  arms-effect Clean Clean h p q = evaluates-free (conditional-triple o h p q)
 
-  conditional-effect : (f d e : ExprDa) → EffectLaw f c → EffectLaw d l → EffectLaw e r → EffectLaw (afterCond f (oneArm d e)) (free (conditional c l r))
-  conditional-effect Writes d e h p q = evaluates-free (conditional-triple h kl kr)
+  conditional-effect : (f d e : ExprDa) → EffectLaw f c → EffectLaw d l → EffectLaw e r → EffectLaw (afterCond f (oneArm d e)) (free (conditional o c l r))
+  conditional-effect Writes d e h p q = evaluates-free (conditional-triple o h kl kr)
   conditional-effect Reads d e h p q = tt
   conditional-effect Clean d e h p q = arms-effect d e h p q
 
 -- each form of a row, from its operands
 
-module _ (n : Bool) (a b c : ExprEffect) (d e f : Evaluation) (p : Sound a d) (q : Sound b e) (r : Sound c f) where
+module _ (o : Order) (n : Bool) (a b c : ExprEffect) (d e f : Evaluation) (p : Sound a d) (q : Sound b e) (r : Sound c f) where
   inner-sound : Sound (guarded (combined Inner n a b c)) d
   inner-sound = row-sound Inner n a b c d (p .calm) (p .effect) (λ want t m i. p .when want t m)
 
@@ -187,18 +190,18 @@ module _ (n : Bool) (a b c : ExprEffect) (d e f : Evaluation) (p : Sound a d) (q
       (flip-effect (a .effect) d (p .effect))
       (λ want t m i. p .when (not want) (opposite t) (flip-meets want t m))
 
-  operands-sound : Sound (guarded (combined Operands n a b c)) (free (seq (d .value) (e .value)))
+  operands-sound : Sound (guarded (combined Operands n a b c)) (free (eitherFirst o (d .value) (e .value)))
   operands-sound =
-      row-sound Operands n a b c (free (seq (d .value) (e .value)))
-      (evaluates-free (rule-seq (p .calm .value) (q .calm .value)))
-      (join-effect (a .effect) (b .effect) d e (q .calm) (p .effect) (q .effect))
+      row-sound Operands n a b c (free (eitherFirst o (d .value) (e .value)))
+      (evaluates-free (rule-either-first o (p .calm .value) (q .calm .value)))
+      (join-effect o (a .effect) (b .effect) d e (p .effect) (q .effect))
       (λ want t m i. tt)
 
-  arms-sound : Sound (guarded (combined Arms n a b c)) (free (conditional d e f))
+  arms-sound : Sound (guarded (combined Arms n a b c)) (free (conditional o d e f))
   arms-sound =
-      row-sound Arms n a b c (free (conditional d e f))
-      (evaluates-free (conditional-triple (p .calm) (q .calm) (r .calm)))
-      (conditional-effect e f (q .calm) (r .calm) d (a .effect) (b .effect) (c .effect) (p .effect) (q .effect) (r .effect))
+      row-sound Arms n a b c (free (conditional o d e f))
+      (evaluates-free (conditional-triple o (p .calm) (q .calm) (r .calm)))
+      (conditional-effect o e f (q .calm) (r .calm) d (a .effect) (b .effect) (c .effect) (p .effect) (q .effect) (r .effect))
       (λ want t m i. tt)
 
   chain-calm : (want : Bool) → Evaluates full full (asked (chain want d e))
@@ -239,15 +242,15 @@ no-sound = record { calm = evaluates-free rule-skip; effect = evaluates-free rul
 
 -- each kind of a row, by its side
 
-module _ (n : Bool) (a b c : ExprEffect) (d e f : Evaluation) (p : Sound a d) (q : Sound b e) (r : Sound c f) where
+module _ (o : Order) (n : Bool) (a b c : ExprEffect) (d e f : Evaluation) (p : Sound a d) (q : Sound b e) (r : Sound c f) where
   unary-sound : (i : Bool) → Sound (guarded (combined (cond i LogNot Operand) n a b c)) (cond i (asked (λ t. d .truth (opposite t))) (free (d .value)))
-  unary-sound true = not-sound n a b c d e f p q r
-  unary-sound false = operand-sound n a b c d e f p q r
+  unary-sound true = not-sound o n a b c d e f p q r
+  unary-sound false = operand-sound o n a b c d e f p q r
 
-  binary-sound : (i j : Bool) → Sound (guarded (combined (cond i LogAnd (cond j LogOr Operands)) n a b c)) (cond i (asked (both d e)) (cond j (asked (either d e)) (free (seq (d .value) (e .value)))))
-  binary-sound true j = and-sound n a b c d e f p q r
-  binary-sound false true = or-sound n a b c d e f p q r
-  binary-sound false false = operands-sound n a b c d e f p q r
+  binary-sound : (i j : Bool) → Sound (guarded (combined (cond i LogAnd (cond j LogOr Operands)) n a b c)) (cond i (asked (both d e)) (cond j (asked (either d e)) (free (eitherFirst o (d .value) (e .value)))))
+  binary-sound true j = and-sound o n a b c d e f p q r
+  binary-sound false true = or-sound o n a b c d e f p q r
+  binary-sound false false = operands-sound o n a b c d e f p q r
 
 call-sound : (n i : Bool) (a b c : ExprEffect) (e : Evaluation)
     → Evaluates full full (cond i (free (emit write)) e)
@@ -256,20 +259,20 @@ call-sound : (n i : Bool) (a b c : ExprEffect) (e : Evaluation)
 call-sound n true a b c e k q = writes-sound n
 call-sound n false a b c e k q = vetted-sound n e k q
 
-module _ (x s : ℕ) (cs : Forest) (n : Bool) {os : List ExprEffect} {es : List Evaluation} (ps : Pairwise Sound os es) where
+module _ (sem : Semantics) (x s : ℕ) (cs : Forest) (n : Bool) {os : List ExprEffect} {es : List Evaluation} (ps : Pairwise Sound os es) where
   child : (i : ℕ) → Sound (nth noEffect i os) (nth noEvaluation i es)
   child i = related-at noEffect noEvaluation i no-sound ps
 
   sound-kind : (k : ExprClass)
-      → Evaluates full full (evaluationOf x k s cs es)
-      → (n ≡ false → Evaluates none none (evaluationOf x k s cs es))
-      → Sound (guarded (combined (formOf k s) n (nth noEffect 0 os) (nth noEffect 1 os) (nth noEffect 2 os))) (evaluationOf x k s cs es)
+      → Evaluates full full (evaluationOf sem x k s cs es)
+      → (n ≡ false → Evaluates none none (evaluationOf sem x k s cs es))
+      → Sound (guarded (combined (formOf k s) n (nth noEffect 0 os) (nth noEffect 1 os) (nth noEffect 2 os))) (evaluationOf sem x k s cs es)
   unfolding unaryForm binaryForm callForm
-  sound-kind Unary h v = unary-sound n _ _ _ _ _ _ (child 0) (child 1) (child 2) (eqb s 1)
-  sound-kind Binary h v = binary-sound n _ _ _ _ _ _ (child 0) (child 1) (child 2) (eqb s 1) (eqb s 2)
-  sound-kind Ternary h v = arms-sound n _ _ _ _ _ _ (child 0) (child 1) (child 2)
+  sound-kind Unary h v = unary-sound (sem .order) n _ _ _ _ _ _ (child 0) (child 1) (child 2) (eqb s 1)
+  sound-kind Binary h v = binary-sound (sem .order) n _ _ _ _ _ _ (child 0) (child 1) (child 2) (eqb s 1) (eqb s 2)
+  sound-kind Ternary h v = arms-sound (sem .order) n _ _ _ _ _ _ (child 0) (child 1) (child 2)
   sound-kind Call h v = call-sound n (eqb s 1) _ _ _ _ h v
-  sound-kind Paren h v = inner-sound n _ _ _ _ _ _ (child 0) (child 1) (child 2)
+  sound-kind Paren h v = inner-sound (sem .order) n _ _ _ _ _ _ (child 0) (child 1) (child 2)
   sound-kind Ident h v = vetted-sound n _ h v
   sound-kind Lident h v = vetted-sound n _ h v
   sound-kind Opaque h v = vetted-sound n _ h v
@@ -280,13 +283,13 @@ module _ (x s : ℕ) (cs : Forest) (n : Bool) {os : List ExprEffect} {es : List 
 row-held : (x k s lo hi : ℕ) (cs others : Forest) → iffQuiet x (node k s lo hi cs others) ≡ true → refers Skipped x (node k s lo hi cs nil) ≡ false → refers Held x (node k s lo hi cs nil) ≡ false
 row-held x k s lo hi cs others q e = sym (refers-quiet x (node k s lo hi cs nil) (quiet-alone x k s lo hi cs others q)) ∙ e
 
-sound : (x : ℕ) (f : Forest) → iffQuiet x f ≡ true → Pairwise Sound (exprEffects x f) (evaluations x f)
+sound : (sem : Semantics) (x : ℕ) (f : Forest) → iffQuiet x f ≡ true → Pairwise Sound (exprEffects x f) (evaluations sem x f)
 unfolding fold exprEffectAt evaluationAt
-sound x nil q = no-pair
-sound x (node k s lo hi cs others) q =
+sound sem x nil q = no-pair
+sound sem x (node k s lo hi cs others) q =
     pair
-    (sound-kind x s cs (refers Skipped x (node k s lo hi cs nil)) (sound x cs (quiet-children x k s lo hi cs others q)) (exprClass k) (calm-row x k s lo hi cs) (λ e. quiet-row x k s lo hi cs (row-held x k s lo hi cs others q e)))
-    (sound x others (quiet-others x k s lo hi cs others q))
+    (sound-kind sem x s cs (refers Skipped x (node k s lo hi cs nil)) (sound sem x cs (quiet-children x k s lo hi cs others q)) (exprClass k) (calm-row sem x k s lo hi cs) (λ e. quiet-row sem x k s lo hi cs (row-held x k s lo hi cs others q e)))
+    (sound sem x others (quiet-others x k s lo hi cs others q))
 
 -- the law of an expression
 
@@ -294,37 +297,45 @@ write-plain : (plain : Bool) → plain ≡ true → Triple none (writeIf plain) 
 write-plain true e = rule-write
 write-plain false e = true-not-false (sym e)
 
-plain-writes : (x : ℕ) (k : ExprClass) (s : ℕ) (cs : Forest) (es : List Evaluation) → isPlain x k cs ≡ true → Triple none (evaluationOf x k s cs es .store) (at full) never
-plain-writes x Lident s cs es e = write-plain (isLocal x cs) e
-plain-writes x Ident s cs es e = true-not-false (sym e)
-plain-writes x Call s cs es e = true-not-false (sym e)
-plain-writes x Opaque s cs es e = true-not-false (sym e)
-plain-writes x Event s cs es e = true-not-false (sym e)
-plain-writes x Unary s cs es e = true-not-false (sym e)
-plain-writes x Binary s cs es e = true-not-false (sym e)
-plain-writes x Ternary s cs es e = true-not-false (sym e)
-plain-writes x Paren s cs es e = true-not-false (sym e)
-plain-writes x Other s cs es e = true-not-false (sym e)
+-- the plain local as a target has no selects, and is written
+plain-target : (plain : Bool) → plain ≡ true → PlainLaw (target plain)
+plain-target plain e = record {
+  plain = e;
+  unread = record { value = rule-skip; truth = λ t. evaluates-free rule-skip .truth t; store = write-keeps plain };
+  stored = write-plain plain e;
+}
+
+plain-row : (sem : Semantics) (x : ℕ) (k : ExprClass) (s : ℕ) (cs : Forest) (es : List Evaluation) → isPlain x k cs ≡ true → PlainLaw (evaluationOf sem x k s cs es)
+plain-row sem x Lident s cs es e = plain-target (isLocal x cs) e
+plain-row sem x Ident s cs es e = true-not-false (sym e)
+plain-row sem x Call s cs es e = true-not-false (sym e)
+plain-row sem x Opaque s cs es e = true-not-false (sym e)
+plain-row sem x Event s cs es e = true-not-false (sym e)
+plain-row sem x Unary s cs es e = true-not-false (sym e)
+plain-row sem x Binary s cs es e = true-not-false (sym e)
+plain-row sem x Ternary s cs es e = true-not-false (sym e)
+plain-row sem x Paren s cs es e = true-not-false (sym e)
+plain-row sem x Other s cs es e = true-not-false (sym e)
 
 first-of : {o : ExprEffect} {e : Evaluation} {os : List ExprEffect} {es : List Evaluation} → Pairwise Sound (o ∷ os) (e ∷ es) → Sound o e
 first-of (pair h hs) = h
 
-row-law : (x k s lo hi : ℕ) (cs others : Forest) → iffQuiet x (node k s lo hi cs others) ≡ true → Sound (exprEffectAt x k s lo hi cs (exprEffects x cs)) (evaluationAt x k s lo hi cs (evaluations x cs)) → ExprLaw (factsAt x k s lo hi cs (exprFacts x cs)) (evaluationAt x k s lo hi cs (evaluations x cs))
+row-law : (sem : Semantics) (x k s lo hi : ℕ) (cs others : Forest) → iffQuiet x (node k s lo hi cs others) ≡ true → Sound (exprEffectAt x k s lo hi cs (exprEffects x cs)) (evaluationAt sem x k s lo hi cs (evaluations sem x cs)) → ExprLaw (factsAt x k s lo hi cs (exprFacts x cs)) (evaluationAt sem x k s lo hi cs (evaluations sem x cs))
 unfolding factsAt evaluationAt
-row-law x k s lo hi cs others q h = record {
+row-law sem x k s lo hi cs others q h = record {
   calm = h .calm;
-  quiet = λ e. quiet-row x k s lo hi cs (row-held x k s lo hi cs others q e);
-  silent = λ e. silent-row x k s lo hi cs (row-held x k s lo hi cs others q e);
+  quiet = λ e. quiet-row sem x k s lo hi cs (row-held x k s lo hi cs others q e);
+  silent = λ e. silent-row sem x k s lo hi cs (row-held x k s lo hi cs others q e);
   effect = h .effect;
   when = h .when;
-  plainly = plain-writes x (exprClass k) s cs (evaluations x cs);
+  plainly = plain-row sem x (exprClass k) s cs (evaluations sem x cs);
 }
 
-pub expr-laws : (x : ℕ) (f : Forest) → iffQuiet x f ≡ true → Pairwise ExprLaw (exprFacts x f) (evaluations x f)
+pub expr-laws : (sem : Semantics) (x : ℕ) (f : Forest) → iffQuiet x f ≡ true → Pairwise ExprLaw (exprFacts x f) (evaluations sem x f)
 unfolding fold factsAt
-expr-laws x nil q = no-pair
-expr-laws x (node k s lo hi cs others) q =
-    pair (row-law x k s lo hi cs others q (first-of (sound x (node k s lo hi cs others) q))) (expr-laws x others (quiet-others x k s lo hi cs others q))
+expr-laws sem x nil q = no-pair
+expr-laws sem x (node k s lo hi cs others) q =
+    pair (row-law sem x k s lo hi cs others q (first-of (sound sem x (node k s lo hi cs others) q))) (expr-laws sem x others (quiet-others x k s lo hi cs others q))
 
 pub no-law : ExprLaw noFacts noEvaluation
 no-law = record { calm = no-sound .calm; quiet = λ e. no-sound .effect; silent = λ e. silent-none; effect = no-sound .effect; when = no-sound .when; plainly = λ e. true-not-false (sym e) }
@@ -363,8 +374,8 @@ effect-kept x nil = refl
 effect-kept x (node k s lo hi cs others) = refl
 
 module _ (x : ℕ) (f : Forest) where
-  first-law : iffQuiet x f ≡ true → ExprLaw (nth noFacts 0 (exprFacts x f)) (nth noEvaluation 0 (evaluations x f))
-  first-law q = related-at noFacts noEvaluation 0 no-law (expr-laws x f q)
+  first-law : (sem : Semantics) → iffQuiet x f ≡ true → ExprLaw (nth noFacts 0 (exprFacts x f)) (nth noEvaluation 0 (evaluations sem x f))
+  first-law sem q = related-at noFacts noEvaluation 0 no-law (expr-laws sem x f q)
 
   pub effect-told : (r : ExprEffect) → r ≡ exprEffectOf x f 0 → EffectTold x f r
   effect-told r e = record { facts = facts-effects x f 0 ∙ sym e; law = first-law }
@@ -372,7 +383,7 @@ module _ (x : ℕ) (f : Forest) where
   pub da-told : (r : RowEffect) → r ≡ unguarded x f → DaTold x f r
   da-told r e =
       let d : exprDa x f 0 ≡ r .effect = sym (rw e (effect-kept x f)) in
-      record { effect = d; writing = ap guarded e ∙ sym (effect-first x f); law = λ q. subst (λ d. EffectLaw d (nth noEvaluation 0 (evaluations x f))) (ap (λ o. o .effect) (facts-effects x f 0) ∙ d) (first-law q .effect) }
+      record { effect = d; writing = ap guarded e ∙ sym (effect-first x f); law = λ sem q. subst (λ d. EffectLaw d (nth noEvaluation 0 (evaluations sem x f))) (ap (λ o. o .effect) (facts-effects x f 0) ∙ d) (first-law sem q .effect) }
 
 -- no row
 pub none-told : (x : ℕ) (rows : List ℕ) (from to : ℕ) → to ≤ from → DaTold x (tree rows from to) noRowEffect

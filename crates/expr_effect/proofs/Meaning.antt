@@ -15,6 +15,7 @@ use Rattle.paths.specs.Marks.{none, full}
 use Rattle.paths.specs.Commands.{PathEvent, read, Ending, falls, Runs}
 use Rattle.paths.specs.Silence.{Silent}
 use Rattle.paths.specs.Evaluation.{Evaluation, Truth, noEvaluation, evaluations}
+use Rattle.paths.specs.Semantics.{Semantics}
 use Rattle.paths.specs.Evaluates.{Meets, Evaluates}
 use Rattle.paths.proofs.Evaluating.{evaluates-forget}
 use Rattle.paths.specs.Written.{Written}
@@ -31,15 +32,15 @@ not-reads Clean e n h = h
 not-reads Writes e n h = evaluates-forget h
 not-reads Reads e n h = absurd (n refl)
 
-module _ (x k s lo hi : ℕ) (cs : Forest) (q : iffQuiet x (node k s lo hi cs nil) ≡ true) where
+module _ (sem : Semantics) (x k s lo hi : ℕ) (cs : Forest) (q : iffQuiet x (node k s lo hi cs nil) ≡ true) where
   abbrev row : Forest
   row = node k s lo hi cs nil
 
   abbrev evaluated : Evaluation
-  evaluated = nth noEvaluation 0 (evaluations x row)
+  evaluated = nth noEvaluation 0 (evaluations sem x row)
 
   law : ExprLaw (nth noFacts 0 (exprFacts x row)) evaluated
-  law = effect-told x row (exprEffectOf x row 0) refl .law q
+  law = effect-told x row (exprEffectOf x row 0) refl .law sem q
 
   effect-law : EffectLaw (exprDa x row 0) evaluated
   effect-law = subst (λ o. EffectLaw (o .effect) evaluated) (facts-effects x row 0) (law .effect)
@@ -56,12 +57,12 @@ module _ (x k s lo hi : ℕ) (cs : Forest) (q : iffQuiet x (node k s lo hi cs ni
     truth-written b r = fall-is-written t (written .truth b) r
 
   -- unless Reads: a read has a write before it
-  module _ (n : exprDa x row 0 ≡ Reads → ⊥) (t u : List PathEvent) (o : Ending) where
-    pub value-read : Runs (evaluated .value) (t ++ (read ∷ u)) o → Written t
-    value-read r = read-is-written t u read o (not-reads (exprDa x row 0) evaluated n effect-law .value) (λ z. z) r
+  module _ (n : exprDa x row 0 ≡ Reads → ⊥) (t u : List PathEvent) (end : Ending) where
+    pub value-read : Runs (evaluated .value) (t ++ (read ∷ u)) end → Written t
+    value-read r = read-is-written t u read end (not-reads (exprDa x row 0) evaluated n effect-law .value) (λ z. z) r
 
-    pub truth-read : (b : Truth) → Runs (evaluated .truth b) (t ++ (read ∷ u)) o → Written t
-    truth-read b r = read-is-written t u read o (not-reads (exprDa x row 0) evaluated n effect-law .truth b) (λ z. z) r
+    pub truth-read : (b : Truth) → Runs (evaluated .truth b) (t ++ (read ∷ u)) end → Written t
+    truth-read b r = read-is-written t u read end (not-reads (exprDa x row 0) evaluated n effect-law .truth b) (λ z. z) r
 
   -- the writing on an outcome
   module _ (t : List PathEvent) where
@@ -73,16 +74,16 @@ module _ (x k s lo hi : ℕ) (cs : Forest) (q : iffQuiet x (node k s lo hi cs ni
     wanted-written want c m = when-law want c (law .when want c m)
 
   -- no reference: nothing is read, in whatever way the row is evaluated
-  module _ (n : refers Skipped x row ≡ false) (t : List PathEvent) (o : Ending) where
-    pub value-silent : Runs (evaluated .value) t o → Silent t
-    value-silent = law .silent (facts-refers x k s lo hi cs nil ∙ n) .value .go t o
+  module _ (n : refers Skipped x row ≡ false) (t : List PathEvent) (end : Ending) where
+    pub value-silent : Runs (evaluated .value) t end → Silent t
+    value-silent = law .silent (facts-refers x k s lo hi cs nil ∙ n) .value .go t end
 
-    pub truth-silent : (b : Truth) → Runs (evaluated .truth b) t o → Silent t
-    truth-silent b = law .silent (facts-refers x k s lo hi cs nil ∙ n) .truth b .go t o
+    pub truth-silent : (b : Truth) → Runs (evaluated .truth b) t end → Silent t
+    truth-silent b = law .silent (facts-refers x k s lo hi cs nil ∙ n) .truth b .go t end
 
-    pub store-silent : Runs (evaluated .store) t o → Silent t
-    store-silent = law .silent (facts-refers x k s lo hi cs nil ∙ n) .store .go t o
+    pub store-silent : Runs (evaluated .store) t end → Silent t
+    store-silent = law .silent (facts-refers x k s lo hi cs nil ∙ n) .store .go t end
 
   -- the plain local as a target: whoever goes on has written
   pub store-written : exprClass k ≡ Lident → isLocal x cs ≡ true → (t : List PathEvent) → Runs (evaluated .store) t falls → Written t
-  store-written e l t r = fall-is-written t (law .plainly (facts-plain x k s lo hi cs nil e ∙ l)) r
+  store-written e l t r = fall-is-written t (law .plainly (facts-plain x k s lo hi cs nil e ∙ l) .stored) r

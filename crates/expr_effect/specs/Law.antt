@@ -17,6 +17,7 @@ use Rattle.paths.specs.Marks.{full, none}
 use Rattle.paths.specs.Commands.{Command}
 use Rattle.paths.specs.Triples.{Triple, at, never}
 use Rattle.paths.specs.Evaluation.{Evaluation, Truth, noEvaluation, evaluations}
+use Rattle.paths.specs.Semantics.{Semantics}
 use Rattle.paths.specs.Evaluates.{Meets, Evaluates}
 use Rattle.paths.specs.Silence.{ReadsNothing}
 use Rattle.effect_rules.specs.declared.ExprDa.{ExprDa}
@@ -83,6 +84,12 @@ pub data NoneRefer : List ExprFacts → Type 0 where
   none-left : NoneRefer []
   and-more : {facts : ExprFacts} {others : List ExprFacts} → facts .refers ≡ false → NoneRefer others → NoneRefer (facts ∷ others)
 
+-- the plain local: as a target it is written, and nothing of it is read before
+pub record PlainLaw (e : Evaluation) : Type 0 where
+  pub plain : e .isPlainLocal ≡ true
+  pub unread : Evaluates none none e
+  pub stored : Triple none (e .store) (at full) never
+
 -- what these say of every evaluation of the row
 pub record ExprLaw (facts : ExprFacts) (e : Evaluation) : Type 0 where
   -- where the local is written, any evaluation is fine
@@ -92,16 +99,16 @@ pub record ExprLaw (facts : ExprFacts) (e : Evaluation) : Type 0 where
   pub silent : facts .refers ≡ false → ReadsNothing e
   pub effect : EffectLaw (facts .effects .effect) e
   pub when : (want : Bool) (t : Truth) → Meets want t → WhenLaw (writesWhen (facts .effects) want) (e .truth t)
-  -- the plain local as a target is written
-  pub plainly : facts .plain ≡ true → Triple none (e .store) (at full) never
+  -- the plain local as a target has no selects, and is written
+  pub plainly : facts .plain ≡ true → PlainLaw e
 
 -- what an answer means, for the first of these siblings: the law of an expression, where no iff refers to the local
 pub record EffectTold (x : ℕ) (f : Forest) (o : ExprEffect) : Type 0 where
   pub facts : nth noFacts 0 (exprFacts x f) .effects ≡ o
-  pub law : iffQuiet x f ≡ true → ExprLaw (nth noFacts 0 (exprFacts x f)) (nth noEvaluation 0 (evaluations x f))
+  pub law : (sem : Semantics) → iffQuiet x f ≡ true → ExprLaw (nth noFacts 0 (exprFacts x f)) (nth noEvaluation 0 (evaluations sem x f))
 
 -- what an answer of `expr_da` means: the row's effect with its law, and what the row writes once its own effect is looked at
 pub record DaTold (x : ℕ) (f : Forest) (r : RowEffect) : Type 0 where
   pub effect : exprDa x f 0 ≡ r .effect
   pub writing : guarded r ≡ exprEffectOf x f 0
-  pub law : iffQuiet x f ≡ true → EffectLaw (r .effect) (nth noEvaluation 0 (evaluations x f))
+  pub law : (sem : Semantics) → iffQuiet x f ≡ true → EffectLaw (r .effect) (nth noEvaluation 0 (evaluations sem x f))

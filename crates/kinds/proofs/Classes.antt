@@ -1,13 +1,19 @@
--- The last arm of a match on the class of a statement, which takes the classes that no other arm names.
+-- The last arm of a match on the class of a statement, which takes the classes that no other arm names; and the word of a class that
+-- one word alone has.
 use Prim.Native.Nat.{ℕ}
+use Prim.Native.String.{String}
 use mathlib.Core.Path.{_≡_, refl, sym, ap, _∙_}
+use mathlib.Core.Bool.{Bool, true, false, cond, _||_}
 use mathlib.Core.List.{List, [], _∷_, map}
 use mathlib.Core.Logic.{inl, inr}
+use lib.Dec.{eqb}
 use lib.ListN.{getD}
 use denote.Enum.Declared.{tagOf}
 use types.Run.{OneOf}
 use Rattle.kinds.specs.declared.StmtClass.{StmtClass}
 use Rattle.kinds.specs.declared.StmtClass.the-variants.{Absent, Match, Default, Decl, Blocking, Nonblocking, If, Return, Case, For, While, Repeat, Forever, Block, Fork, Systask, Task, Delayctrl, Eventctrl, Wait, Disable, Null, Unmodelled, NoStmt}
+use Rattle.kinds.specs.Named.{numbered, stmtWords, stmtClassIn, stmtClass}
+use Rattle.kinds.proofs.Below.{true-not-false}
 use Rattle.kinds.proofs.StmtClass.{the-type}
 
 -- the classes in the order of their tags
@@ -63,3 +69,29 @@ pub last-arm : {A : Type 0} (f : StmtClass → A) (a : A) (t : ℕ) (tags : List
     → OneOf (t ∷ tags) (tagOf the-type c)
     → f c ≡ a
 last-arm f a t tags c p o = sym (ap f (class-at c)) ∙ at-tag f a t tags (tagOf the-type c) p o
+
+-- a word of these whose class passes a test has this number
+abbrev isWord : (StmtClass → Bool) → List (String × StmtClass) → ℕ → Bool
+isWord test [] k = false
+isWord test (w ∷ more) k = cond (test (w .1)) (eqb k (numbered (w .0)) || isWord test more k) (isWord test more k)
+
+-- where the class of a number passes, the number is such a word's
+class-word : (test : StmtClass → Bool) (words : List (String × StmtClass)) (k : ℕ) → test NoStmt ≡ false → test (stmtClassIn words k) ≡ true → isWord test words k ≡ true
+unfolding stmtClassIn
+class-word test [] k n e = sym n ∙ e
+class-word test (w ∷ more) k n e = go (eqb k (numbered (w .0))) (test (w .1)) refl e (class-word test more k n)
+  where
+    go : (b c : Bool) → test (w .1) ≡ c → test (cond b (w .1) (stmtClassIn more k)) ≡ true → (test (stmtClassIn more k) ≡ true → isWord test more k ≡ true) → cond c (b || isWord test more k) (isWord test more k) ≡ true
+    go true true p e more-so = refl
+    go true false p e more-so = true-not-false (sym e ∙ p)
+    go false true p e more-so = more-so e
+    go false false p e more-so = more-so e
+
+-- the class of nonblocking is no other word's
+pub nonblocking-word : (k : ℕ) → stmtClass k ≡ Nonblocking → eqb k (numbered "nonblocking") ≡ true
+unfolding stmtClass stmtWords
+nonblocking-word k e = alone (eqb k (numbered "nonblocking")) (class-word (λ c. eqb (tagOf the-type c) 5) stmtWords k refl (ap (λ c. eqb (tagOf the-type c) 5) e))
+  where
+    alone : (b : Bool) → b || false ≡ true → b ≡ true
+    alone true e = refl
+    alone false e = e

@@ -132,7 +132,7 @@ pub escape-told : {rows : List ℕ} {from to : ℕ} {r : Bool}
     → (r ≡ cannotEscape (tree rows from to)) × EscapeTold rows from to r
 unfolding cannotEscape stmtCannotEscape
 escape-told {rows} {from} {to} g q =
-    (q, record { stays = λ y x marks t o. never-jumps t o (stay-first x marks (tree rows from to) (sym q ∙ y)); arms = λ f h e. q ∙ alone-is g h e by-and cannotEscapeAt ∙ ap (nth true 0) (arms-escape (tree rows from to) f) })
+    (q, record { stays = λ y sem x marks t o. never-jumps t o (stay-first sem x marks (tree rows from to) (sym q ∙ y)); arms = λ f h e. q ∙ alone-is g h e by-and cannotEscapeAt ∙ ap (nth true 0) (arms-escape (tree rows from to) f) })
 
 stmt-fair : (k : ℕ) → inClass S k ≡ true → fair (classOf k) ≡ true
 unfolding inClass ofClass classNumber

@@ -10,6 +10,7 @@ use Rattle.kinds.specs.declared.StmtClass.the-variants.{Absent, Match, Default,
 use Rattle.kinds.specs.Named.{stmtClass}
 use Rattle.reads.specs.Iffs.{every}
 use Rattle.paths.specs.Commands.{PathEvent, Ending, NoJump, Runs}
+use Rattle.paths.specs.Semantics.{Semantics}
 use Rattle.stmt_paths.specs.Execution.{executed}
 use Rattle.loops.specs.Fitting.{fitting}
 
@@ -102,6 +103,6 @@ stmtCannotEscape f = nth true 0 (fold stmtCannotEscapeAt f)
 -- what `stmt_cannot_escape` tells
 pub record EscapeTold (rows : List ℕ) (from to : ℕ) (r : Bool) : Type 0 where
   -- where it says yes, no run of the first row jumps
-  pub stays : r ≡ true → (x : ℕ) (marks : ℕ → Bool) (t : List PathEvent) (o : Ending) → Runs (executed x marks (tree rows from to)) t o → NoJump o
+  pub stays : r ≡ true → (sem : Semantics) (x : ℕ) (marks : ℕ → Bool) (t : List PathEvent) (o : Ending) → Runs (executed sem x marks (tree rows from to)) t o → NoJump o
   -- of a row alone, with children that fit at every row, the answer is that of the Rust's arms
   pub arms : fitting (tree rows from to) ≡ true → from < to → to ≡ endAt rows from → r ≡ stmtCannotEscape (tree rows from to)

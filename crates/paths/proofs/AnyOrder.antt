@@ -11,7 +11,7 @@ use Rattle.paths.specs.Each.{Each}
 use Rattle.paths.specs.Marks.{Mark, _⊑_}
 use Rattle.paths.specs.Commands.{PathEvent, Ending, Command, skip, seq, alt, Runs, run-stop, run-seq, run-off, run-left, run-right}
 use Rattle.paths.specs.Triples.{Claim, at, never, Ends, Good, Triple}
-use Rattle.paths.specs.Semantics.{Order, row-order, free-order}
+use Rattle.paths.specs.Semantics.{Order, row-order, free-order, InFreeOrder, not-asked, holds}
 use Rattle.paths.specs.AnyOrder.{inTurn, onePicked, picked, anyOrder, eitherFirst}
 use Rattle.paths.proofs.Rules.{lift, rule-skip, rule-seq, rule-alt}
 use Rattle.paths.proofs.Listed.{each-imply}
@@ -127,6 +127,11 @@ pub record InAnyOrder (cs : List Command) (c : Command) : Type 0 where
 
 pub in-any-order : (cs : List Command) → InAnyOrder cs (anyOrder cs)
 in-any-order cs = record { each = λ ds p. every-order p; only = only-orders cs }
+
+-- what is asked in free order alone
+pub in-free : {P Q : Type 0} {o : Order} → (P → Q) → InFreeOrder P o → InFreeOrder Q o
+in-free f not-asked = not-asked
+in-free f (holds p) = holds (f p)
 
 -- Triples
 

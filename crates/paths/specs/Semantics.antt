@@ -5,9 +5,9 @@ pub data Order : Type 0 where
   row-order free-order : Order
 
 -- what is asked in free order alone
-abbrev pub InFreeOrder : Order → Type 0 → Type 0
-InFreeOrder row-order P = Unit
-InFreeOrder free-order P = P
+pub data InFreeOrder (P : Type 0) : Order → Type 0 where
+  not-asked : InFreeOrder P row-order
+  holds : P → InFreeOrder P free-order
 
 -- under what rows are evaluated and statements run
 pub record Semantics : Type 0 where

@@ -7,9 +7,11 @@ use Rattle.table.specs.Fold.{Pairwise, no-pair, pair}
 use Rattle.paths.specs.Marks.{Mark, none}
 use Rattle.paths.specs.Commands.{Command, skip}
 use Rattle.paths.specs.Triples.{at, never, Triple}
-use Rattle.paths.specs.Evaluation.{inOrder}
 use Rattle.paths.proofs.Rules.{rule-skip, rule-choice, rule-stops, rule-seq, rule-alt}
+use Rattle.paths.specs.Semantics.{Order}
+use Rattle.paths.specs.Evaluates.{AllEvaluate}
 use Rattle.paths.proofs.Evaluating.{in-order}
+use Rattle.stmt_paths.proofs.Forms.{matching-so}
 use Rattle.stmt_paths.specs.Execution.{Execution, allLabels, hasDefault as defaultStands, armsFrom}
 use Rattle.da.specs.declared.DaOut.{DaOut}
 use Rattle.da.specs.declared.DaOut.the-variants.{Falls, Jumps}
@@ -27,7 +29,7 @@ use Rattle.soundness.proofs.Law.{StmtLaw}
 -- arms that were walked, and what they came to together: the labels of each read nothing too soon, and each arm is sound
 pub data Walked (after : State) : List Execution → DaOut → Type 0 where
   no-arms : Walked after [] Jumps
-  one-arm : {r : Execution} {rs : List Execution} {arm others : DaOut} → Triple (known after) (inOrder (r .labels)) (at (known after)) never
+  one-arm : {r : Execution} {rs : List Execution} {arm others : DaOut} → AllEvaluate (known after) (r .labels)
       → Sound (known after) (r .run) (Ok arm)
       → Walked after rs others
       → Walked after (r ∷ rs) (merge arm others)
@@ -37,14 +39,14 @@ pub data ArmsSound (after : State) (before : DaOut) (rs : List Execution) : DaRe
   walked : {others : DaOut} → Walked after rs others → ArmsSound after before rs (Ok (merge before others))
   stopped : {stop : DaGiveUp} → ArmsSound after before rs (Err stop)
 
-add-arm : {after : State} {before arm : DaOut} {r : Execution} {rs : List Execution} {s : DaResult} → Triple (known after) (inOrder (r .labels)) (at (known after)) never
+add-arm : {after : State} {before arm : DaOut} {r : Execution} {rs : List Execution} {s : DaResult} → AllEvaluate (known after) (r .labels)
     → Sound (known after) (r .run) (Ok arm)
     → ArmsSound after (merge before arm) rs s
     → ArmsSound after before (r ∷ rs) s
 add-arm {before = before} {arm = arm} h k (walked {others = others} l) = rw (merge-assoc before arm others) (walked (one-arm h k l))
 add-arm h k stopped = stopped
 
-arm-then : {after : State} {before : DaOut} {r : Execution} {rs : List Execution} {t : DaResult} (next : DaOut → DaResult) → Triple (known after) (inOrder (r .labels)) (at (known after)) never
+arm-then : {after : State} {before : DaOut} {r : Execution} {rs : List Execution} {t : DaResult} (next : DaOut → DaResult) → AllEvaluate (known after) (r .labels)
     → Sound (known after) (r .run) t
     → ((arm : DaOut) → ArmsSound after (merge before arm) rs (next arm))
     → ArmsSound after before (r ∷ rs) (t ▷ next)
@@ -60,7 +62,7 @@ arms-sound no-pair after before = walked-none before
     walked-none Jumps = walked no-arms
 arms-sound (pair {x = w} {y = r} {xs = ws} {ys = rs} l ls) after before =
     unless-one-read (ArmsSound after before (r ∷ rs)) (λ g. stopped) (l .labels) after
-    (λ h. arm-then (λ arm. arms ws after (merge before arm)) (in-order h) (l .sound after) (λ arm. arms-sound ls after (merge before arm)))
+    (λ h. arm-then (λ arm. arms ws after (merge before arm)) h (l .sound after) (λ arm. arms-sound ls after (merge before arm)))
 
 same-defaults : {ws : List Walk} {rs : List Execution} → Pairwise StmtLaw ws rs → hasDefault ws ≡ defaultStands rs
 same-defaults no-pair = refl
@@ -74,34 +76,34 @@ either-labels false h k = k
 module _ {after : State} where
   all-labels : {rs : List Execution} {out : DaOut} → Walked after rs out → Triple (known after) (allLabels rs) (at (known after)) never
   all-labels no-arms = rule-skip
-  all-labels (one-arm h k l) = rule-seq h (all-labels l)
+  all-labels (one-arm h k l) = rule-seq (in-order h) (all-labels l)
 
-  module _ {all : Command} (all-so : Triple (known after) all (at (known after)) never) where
+  module _ (o : Order) {all : Command} (all-so : Triple (known after) all (at (known after)) never) where
     -- whichever is chosen, or none: what was known is known
     kept : {rs : List Execution} {out : DaOut} (n : ℕ) (default : Bool) {before : Command} → Triple (known after) before (at (known after)) never → Walked after rs out
-        → Triple (known after) (armsFrom n before all default rs) (at (known after)) (at none)
+        → Triple (known after) (armsFrom o n before all default rs) (at (known after)) (at none)
     kept n true b no-arms = rule-stops
     kept n false b no-arms = loose (rule-seq (rule-choice n) all-so)
     kept n default b (one-arm {r = r} h k l) =
-        let labelled = either-labels (r .isDefault) all-so (rule-seq b h) in
-        rule-alt (rule-seq (rule-choice n) (rule-seq (loose labelled) (loose (sound-kept k)))) (kept (suc n) default (rule-seq b h) l)
+        let labelled = either-labels (r .isDefault) all-so (rule-seq b (matching-so o h)) in
+        rule-alt (rule-seq (rule-choice n) (rule-seq (loose labelled) (loose (sound-kept k)))) (kept (suc n) default (rule-seq b (in-order h)) l)
 
     -- where a default stands, one of the arms is run
     chosen : {rs : List Execution} {out : DaOut} (n : ℕ) {before : Command} → Triple (known after) before (at (known after)) never → Walked after rs out
-        → Sound (known after) (armsFrom n before all true rs) (Ok out)
+        → Sound (known after) (armsFrom o n before all true rs) (Ok out)
     chosen n b no-arms = sound-jumps rule-stops
     chosen n b (one-arm {r = r} h k l) =
-        let labelled = either-labels (r .isDefault) all-so (rule-seq b h) in
-        sound-merge (sound-then (rule-choice n) (sound-then (loose labelled) k)) (chosen (suc n) (rule-seq b h) l)
+        let labelled = either-labels (r .isDefault) all-so (rule-seq b (matching-so o h)) in
+        sound-merge (sound-then (rule-choice n) (sound-then (loose labelled) k)) (chosen (suc n) (rule-seq b (in-order h)) l)
 
   -- a case after its scrutinee
-  pub case-so : {rs : List Execution} {r : DaResult} (default : Bool) → ArmsSound after Jumps rs r → defaultStands rs ≡ default
-      → Sound (known after) (armsFrom 0 skip (allLabels rs) (defaultStands rs) rs) (r ▷ λ all. cond (default && not (isWritten after)) (Ok all) (Ok (Falls after)))
-  case-so true (walked l) q = rw q (by-test (Sound _ _) (not (isWritten after)) (λ p. chosen (all-labels l) 0 rule-skip l) (λ p. sound-falls (kept (all-labels l) 0 true rule-skip l)))
-  case-so false (walked l) q = rw q (sound-falls (kept (all-labels l) 0 false rule-skip l))
-  case-so default stopped q = sound-stop
+  pub case-so : (o : Order) {rs : List Execution} {r : DaResult} (default : Bool) → ArmsSound after Jumps rs r → defaultStands rs ≡ default
+      → Sound (known after) (armsFrom o 0 skip (allLabels rs) (defaultStands rs) rs) (r ▷ λ all. cond (default && not (isWritten after)) (Ok all) (Ok (Falls after)))
+  case-so o true (walked l) q = rw q (by-test (Sound _ _) (not (isWritten after)) (λ p. chosen o (all-labels l) 0 rule-skip l) (λ p. sound-falls (kept o (all-labels l) 0 true rule-skip l)))
+  case-so o false (walked l) q = rw q (sound-falls (kept o (all-labels l) 0 false rule-skip l))
+  case-so o default stopped q = sound-stop
 
 -- the arms of a case, walked one after the other
-pub arms-so : {ws : List Walk} {rs : List Execution} → Pairwise StmtLaw ws rs → (after : State)
-    → Sound (known after) (armsFrom 0 skip (allLabels rs) (defaultStands rs) rs) (arms ws after Jumps ▷ λ all. cond (hasDefault ws && not (isWritten after)) (Ok all) (Ok (Falls after)))
-arms-so {ws} ls after = case-so (hasDefault ws) (arms-sound ls after Jumps) (sym (same-defaults ls))
+pub arms-so : (o : Order) {ws : List Walk} {rs : List Execution} → Pairwise StmtLaw ws rs → (after : State)
+    → Sound (known after) (armsFrom o 0 skip (allLabels rs) (defaultStands rs) rs) (arms ws after Jumps ▷ λ all. cond (hasDefault ws && not (isWritten after)) (Ok all) (Ok (Falls after)))
+arms-so o {ws} ls after = case-so o (hasDefault ws) (arms-sound ls after Jumps) (sym (same-defaults ls))

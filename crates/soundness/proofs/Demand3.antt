@@ -8,27 +8,30 @@ use Rattle.table.proofs.Fold.{related-at}
 use Rattle.reads.specs.Iffs.{iffQuiet}
 use Rattle.paths.specs.Marks.{Mark, none, ⊑-refl}
 use Rattle.paths.specs.Commands.{PathEvent, Ending, falls, Command, Runs}
+use Rattle.paths.specs.Semantics.{Order, row-order, free-order, not-asked, holds, Semantics, rowOrder, freeOrder}
 use Rattle.paths.specs.Triples.{at}
 use Rattle.paths.specs.Written.{Written, ReadsWritten}
 use Rattle.paths.proofs.Rules.{good-never}
 use Rattle.paths.proofs.Meaning.{reads-written, fall-is-written}
 use Rattle.stmt_paths.specs.Execution.{noExecution, executed, IsPath}
-use Rattle.stmt_paths.specs.Premises.{nowhere, firstFailing}
-use Rattle.stmt_paths.proofs.PremiseTest.{all-hold, premises-iff}
+use Rattle.stmt_paths.specs.Premises.{nowhere, firstFailing, Premises}
+use Rattle.stmt_paths.proofs.PremiseTest.{all-hold, premises-iff, premises-nonblocking}
+use Rattle.stmt_paths.proofs.RowAmongFree.{row-among-free}
 use Rattle.da.specs.declared.DaOut.the-variants.{Falls, Jumps}
 use Rattle.da.specs.declared.DaResult.{DaResult}
 use Rattle.da.specs.declared.DaResult.the-variants.{Ok}
 use Rattle.da.specs.Outcome.{State, unwritten, written, Accepted}
 use Rattle.da.specs.Walk.{DaCtx, daCtx, noWalk, daStmt}
-use Rattle.soundness.specs.Demand3.{FallsWritten, NeverFalls, Demand3, Demand3FromIff, WalkMeans}
+use Rattle.soundness.specs.Demand3.{OrderPremise, FallsWritten, NeverFalls, Demand3, Demand3FromIff, WalkMeans}
 use Rattle.soundness.proofs.Known.{known, known-unwritten, known-written}
 use Rattle.soundness.proofs.Sound.{Sound, sound-falls, sound-jumps, sound-stop}
 use Rattle.soundness.proofs.Law.{no-law}
 use Rattle.soundness.proofs.Rows.{stmt-laws}
 
 -- the answer for row 0 is sound
-first-sound : (ctx : DaCtx) (f : Forest) (start : State) → iffQuiet (ctx .local) f ≡ true → Sound (known start) (executed (ctx .local) (ctx .marks) f) (daStmt ctx f start)
-first-sound ctx f start q = related-at noWalk noExecution 0 no-law (stmt-laws ctx f q) .sound start
+first-sound : (sem : Semantics) (ctx : DaCtx) (f : Forest) (start : State) → iffQuiet (ctx .local) f ≡ true → OrderPremise (sem .order) (ctx .local) f
+    → Sound (known start) (executed sem (ctx .local) (ctx .marks) f) (daStmt ctx f start)
+first-sound sem ctx f start q h = related-at noWalk noExecution 0 no-law (stmt-laws sem ctx f q h) .sound start
 
 accepted-reads : {c : Command} {r : DaResult} {t : List PathEvent} {o : Ending} → Sound none c r → Accepted r → Runs c t o → ReadsWritten t
 accepted-reads (sound-falls h) a x = reads-written h x
@@ -36,15 +39,23 @@ accepted-reads (sound-jumps h) a x = reads-written h x
 accepted-reads sound-stop a x = absurd a
 
 pub demand-3-from-iff : Demand3FromIff
-demand-3-from-iff x marks sole f a q t p = accepted-reads (rw known-unwritten at (first-sound (daCtx x marks sole) f unwritten q)) a (p .runs)
+demand-3-from-iff x marks sole f a q sem h t p = accepted-reads (rw known-unwritten at (first-sound sem (daCtx x marks sole) f unwritten q h)) a (p .runs)
 
--- the demand in its own words
+order-premise : (o : Order) (x : ℕ) (marks : ℕ → Bool) (f : Forest) → Premises x marks f → OrderPremise o x f
+order-premise row-order x marks f h = not-asked
+order-premise free-order x marks f h = holds (premises-nonblocking x marks f h)
+
+-- the demand in its own words, whatever order a tool takes
 pub demand-3 : Demand3
-demand-3 x marks sole f a h t p = demand-3-from-iff x marks sole f a (premises-iff x marks f h) t p
+demand-3 x marks sole f a h sem t p = demand-3-from-iff x marks sole f a (premises-iff x marks f h) sem (order-premise (sem .order) x marks f h) t p
+
+-- in document 01's order, whose paths are among those of free order
+pub demand-3-in-row-order : (x : ℕ) (marks : ℕ → Bool) (sole : Bool) (f : Forest) → Accepted (daStmt (daCtx x marks sole) f unwritten) → Premises x marks f → (t : List PathEvent) → IsPath rowOrder x marks f t → ReadsWritten t
+demand-3-in-row-order x marks sole f a h t p = demand-3 x marks sole f a h freeOrder t (row-among-free x marks f t p)
 
 -- and where the computed test finds no row at which a premise fails
-pub demand-3-tested : (x : ℕ) (marks : ℕ → Bool) (sole : Bool) (f : Forest) → Accepted (daStmt (daCtx x marks sole) f unwritten) → firstFailing x marks f ≡ nowhere → (t : List PathEvent) → IsPath x marks f t → ReadsWritten t
-demand-3-tested x marks sole f a e t p = demand-3 x marks sole f a (all-hold x marks f e) t p
+pub demand-3-tested : (x : ℕ) (marks : ℕ → Bool) (sole : Bool) (f : Forest) → Accepted (daStmt (daCtx x marks sole) f unwritten) → firstFailing x marks f ≡ nowhere → (sem : Semantics) (t : List PathEvent) → IsPath sem x marks f t → ReadsWritten t
+demand-3-tested x marks sole f a e sem t p = demand-3 x marks sole f a (all-hold x marks f e) sem t p
 
 written-falls : {c : Command} {t : List PathEvent} → Sound none c (Ok (Falls written)) → Runs c t falls → Written t
 written-falls {t = t} (sound-falls h) x = fall-is-written t (rw known-written at h) x
@@ -55,10 +66,10 @@ jumps-never {a} {t = t} (sound-jumps h) x = good-never t a (h .go a ⊑-refl t f
 -- what an answer of the walk means
 module _ (x : ℕ) (marks : ℕ → Bool) (sole : Bool) (f : Forest) (start : State) where
   falls-written : daStmt (daCtx x marks sole) f start ≡ Ok (Falls written) → start ≡ unwritten → FallsWritten x marks f
-  falls-written e z q t x′ = written-falls (rw (z, known-unwritten) at (subst (Sound (known start) (executed x marks f)) e (first-sound (daCtx x marks sole) f start q))) x′
+  falls-written e z q sem h t x′ = written-falls (rw (z, known-unwritten) at (subst (Sound (known start) (executed sem x marks f)) e (first-sound sem (daCtx x marks sole) f start q h))) x′
 
   never-falls : daStmt (daCtx x marks sole) f start ≡ Ok Jumps → NeverFalls x marks f
-  never-falls e q t x′ = jumps-never (subst (Sound (known start) (executed x marks f)) e (first-sound (daCtx x marks sole) f start q)) x′
+  never-falls e q sem h t x′ = jumps-never (subst (Sound (known start) (executed sem x marks f)) e (first-sound sem (daCtx x marks sole) f start q h)) x′
 
   pub walk-means : WalkMeans x marks f start (daStmt (daCtx x marks sole) f start)
   walk-means = record { safe = λ a z. demand-3 x marks sole f (rw z at a); written = falls-written; away = never-falls }

@@ -4,5 +4,7 @@ pub mod Asking
 pub mod Law
 pub mod Looping
 pub mod Choosing
+pub mod Nonblocking
 pub mod Rows
 pub mod Demand3
+pub mod Needed

@@ -6,9 +6,10 @@ use Prim.Native.Nat.{ℕ}
 use Rattle.table.specs.Rows.{Forest}
 use Rattle.reads.specs.Iffs.{iffQuiet}
 use Rattle.paths.specs.Commands.{PathEvent, falls, Runs}
+use Rattle.paths.specs.Semantics.{Order, InFreeOrder, Semantics}
 use Rattle.paths.specs.Written.{Written, ReadsWritten}
 use Rattle.stmt_paths.specs.Execution.{executed, IsPath}
-use Rattle.stmt_paths.specs.Premises.{Premises}
+use Rattle.stmt_paths.specs.Premises.{nonblockingQuiet, Premises}
 use Rattle.da.specs.declared.DaOut.the-variants.{Falls, Jumps}
 use Rattle.da.specs.declared.DaResult.{DaResult}
 use Rattle.da.specs.declared.DaResult.the-variants.{Ok}
@@ -18,30 +19,37 @@ use Rattle.da.specs.Walk.{daCtx, daStmt}
 -- what is promised of a tree: "whatever truth its conditions take, whichever arm, if any, each case picks, whichever way each loop jump
 -- goes and whatever number of rounds each loop runs" (every list of events that is a path, with the choices among them), "every read
 -- of the local on its path has a whole write before it, provided" (the premises, at every row). "the call and loop facts are true":
--- a path takes the side numbers as given.
+-- a path takes the side numbers as given. And whatever order a tool takes: that of document 01, or any other that IEEE 1800 leaves open.
 abbrev pub SafePaths : ℕ → (ℕ → Bool) → Forest → Type 0
-SafePaths x marks f = Premises x marks f → (t : List PathEvent) → IsPath x marks f t → ReadsWritten t
+SafePaths x marks f = Premises x marks f → (sem : Semantics) (t : List PathEvent) → IsPath sem x marks f t → ReadsWritten t
 
--- every path that falls through has written, if no iff refers to the local
+-- what is asked of a tree beside that no iff refers: in row order nothing; in free order, in which a nonblocking's timing and selects may
+-- be evaluated at the statement, the premises on nonblocking rows
+abbrev pub OrderPremise : Order → ℕ → Forest → Type 0
+OrderPremise o x f = InFreeOrder (nonblockingQuiet x f ≡ true) o
+
+-- every path that falls through has written, if no iff refers to the local, nor what the order asks of nonblocking rows
 abbrev pub FallsWritten : ℕ → (ℕ → Bool) → Forest → Type 0
-FallsWritten x marks f = iffQuiet x f ≡ true → (t : List PathEvent) → Runs (executed x marks f) t falls → Written t
+FallsWritten x marks f = iffQuiet x f ≡ true → (sem : Semantics) → OrderPremise (sem .order) x f → (t : List PathEvent) → Runs (executed sem x marks f) t falls → Written t
 
--- no path falls through, if no iff refers to the local
+-- no path falls through, if so
 abbrev pub NeverFalls : ℕ → (ℕ → Bool) → Forest → Type 0
-NeverFalls x marks f = iffQuiet x f ≡ true → (t : List PathEvent) → Runs (executed x marks f) t falls → ⊥
+NeverFalls x marks f = iffQuiet x f ≡ true → (sem : Semantics) → OrderPremise (sem .order) x f → (t : List PathEvent) → Runs (executed sem x marks f) t falls → ⊥
 
 -- "If a sheet is accepted from the unwritten start"
 abbrev pub Demand3 : Type 0
 Demand3 = (x : ℕ) (marks : ℕ → Bool) (sole : Bool) (f : Forest) → Accepted (daStmt (daCtx x marks sole) f unwritten) → SafePaths x marks f
 
--- the same from the one premise that it needs: no iff refers to the local
+-- the same from the premises that it needs: no iff refers to the local, and in free order those on nonblocking rows
 abbrev pub Demand3FromIff : Type 0
 Demand3FromIff =
     (x : ℕ) (marks : ℕ → Bool) (sole : Bool) (f : Forest)
     → Accepted (daStmt (daCtx x marks sole) f unwritten)
     → iffQuiet x f ≡ true
+    → (sem : Semantics)
+    → OrderPremise (sem .order) x f
     → (t : List PathEvent)
-    → IsPath x marks f t
+    → IsPath sem x marks f t
     → ReadsWritten t
 
 -- what the walk's answer for a tree means, from a start

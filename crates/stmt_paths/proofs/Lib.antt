@@ -1,4 +1,5 @@
 pub mod Conditions
+pub mod Forms
 pub mod AnyLength
 pub mod PremiseTest
 pub mod Numbering

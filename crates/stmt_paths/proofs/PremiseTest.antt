@@ -36,7 +36,7 @@ pub data HasPremise (r : PlacedRow) : Type 0 where
   is-event : IsA "event" r → HasPremise r
 
 -- the two forms of "is the plain local or doesn't refer to it"
-either-or : (p q : Bool) → p || not q ≡ true → (p ≡ true) ⊎ (q ≡ false)
+pub either-or : (p q : Bool) → p || not q ≡ true → (p ≡ true) ⊎ (q ≡ false)
 either-or true q e = inl refl
 either-or false true e = true-not-false (sym e)
 either-or false false e = inr refl
