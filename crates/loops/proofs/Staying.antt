@@ -24,7 +24,7 @@ use Rattle.paths.proofs.Evaluating.{in-order, all-together, evaluates-place, ev
 use Rattle.paths.proofs.Built.{calm-all}
 use Rattle.stmt_paths.specs.Execution.{Execution, plain, noExecution, oneByOne, allLabels, hasDefault, noArm, armsFrom, loop, isPassedOver, byEffect, executionOf, heldAt, heldEvaluations, executionAt, executions, executed}
 use Rattle.stmt_paths.proofs.Conditions.{unmet-so}
-use Rattle.stmt_paths.proofs.Forms.{matching-so, target-keeps, right-keeps, assignment-so, Others, nonblocking-so}
+use Rattle.stmt_paths.proofs.Forms.{chosen-labels-so, target-keeps, right-keeps, assignment-so, Others, nonblocking-so}
 use Rattle.loops.specs.Escape.{transfers, cannotEscapeAt, cannotEscapes, cannotEscape}
 
 -- no run jumps
@@ -71,7 +71,7 @@ unfolding every
 arms-stay o n default no-pair q hb ha = no-arm-stays default n ha
 arms-stay o n default (pair {x = b} {y = r} {xs = bs} h hs) q hb ha =
     let p = both-true b (every bs) q in
-    rule-alt (rule-seq (rule-choice n) (rule-seq (either-stays (r .isDefault) ha (rule-seq hb (matching-so o (h .labels)))) (h .run (p .0))))
+    rule-alt (rule-seq (rule-choice n) (rule-seq (either-stays (r .isDefault) ha (rule-seq hb (chosen-labels-so o (h .labels)))) (h .run (p .0))))
     (arms-stay o (suc n) default hs (p .1) (rule-seq hb (in-order (h .labels))) ha)
 
 every-tail : (bs : List Bool) → every bs ≡ true → every (tail bs) ≡ true

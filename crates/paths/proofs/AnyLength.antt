@@ -9,7 +9,7 @@ use Rattle.table.specs.Rows.{Forest}
 use Rattle.kinds.specs.declared.ExprClass.the-variants.{Call, Other}
 use Rattle.reads.specs.PathRows.{begins}
 use Rattle.paths.specs.Commands.{Command, skip, seq}
-use Rattle.paths.specs.Semantics.{rowOrder, freeOrder}
+use Rattle.paths.specs.Semantics.{row-order, free-order, under}
 use Rattle.paths.specs.Evaluation.{Evaluation, readIf, inOrder, values, evaluationOf}
 use Rattle.paths.proofs.AnyOrder.{InAnyOrder, in-any-order}
 use Rattle.paths.proofs.Within.{Same, same-refl, same-trans, same-seq, same-skip, same-assoc}
@@ -25,17 +25,17 @@ in-order-append = in-turn (λ e. e .value) inOrder refl (λ e more. refl)
 
 module _ (x s : ℕ) (cs : Forest) (before : List Evaluation) (e : Evaluation) (after : List Evaluation) where
   -- "everything else evaluates its children in row order", however many
-  pub every-operand : Same (evaluationOf rowOrder x Other s cs (before ++ (e ∷ after)) .value) (seq (inOrder before) (seq (e .value) (inOrder after)))
+  pub every-operand : Same (evaluationOf (under row-order) x Other s cs (before ++ (e ∷ after)) .value) (seq (inOrder before) (seq (e .value) (inOrder after)))
   every-operand = in-order-append before (e ∷ after)
 
   -- so does a call that does not write, after its own path
-  pub every-argument : eqb s 1 ≡ false → Same (evaluationOf rowOrder x Call s cs (before ++ (e ∷ after)) .value) (seq (readIf (begins x cs)) (seq (inOrder before) (seq (e .value) (inOrder after))))
+  pub every-argument : eqb s 1 ≡ false → Same (evaluationOf (under row-order) x Call s cs (before ++ (e ∷ after)) .value) (seq (readIf (begins x cs)) (seq (inOrder before) (seq (e .value) (inOrder after))))
   every-argument h = rw h (same-seq same-refl (in-order-append before (e ∷ after)))
 
 -- in free order, a call's own path being one of its children
 module _ (x s : ℕ) (cs : Forest) (es : List Evaluation) where
-  pub operands-in-any-order : InAnyOrder (values es) (evaluationOf freeOrder x Other s cs es .value)
+  pub operands-in-any-order : InAnyOrder (values es) (evaluationOf (under free-order) x Other s cs es .value)
   operands-in-any-order = in-any-order (values es)
 
-  pub arguments-in-any-order : eqb s 1 ≡ false → InAnyOrder (readIf (begins x cs) ∷ values es) (evaluationOf freeOrder x Call s cs es .value)
+  pub arguments-in-any-order : eqb s 1 ≡ false → InAnyOrder (readIf (begins x cs) ∷ values es) (evaluationOf (under free-order) x Call s cs es .value)
   arguments-in-any-order h = rw h (in-any-order (readIf (begins x cs) ∷ values es))

@@ -12,7 +12,7 @@ use Rattle.kinds.specs.declared.ExprClass.the-variants.{Ident, Call, Lident, Op
 use Rattle.kinds.specs.Named.{exprClass}
 use Rattle.reads.specs.PathRows.{begins, isLocal}
 use Rattle.paths.specs.Commands.{Command, seq, run-skip}
-use Rattle.paths.specs.Semantics.{row-order, free-order, rowOrder, freeOrder}
+use Rattle.paths.specs.Semantics.{row-order, free-order, under}
 use Rattle.paths.specs.AnyOrder.{inTurn, eitherFirst}
 use Rattle.paths.specs.Evaluation.{Truth, is-true, is-false, is-unknown, opposite, Evaluation, free, ofAny, asked, both, either, conditional, inOrder, values, together, called, writeIf, target, noEvaluation, evaluationOf, evaluationAt, evaluations}
 use Rattle.paths.proofs.Within.{Within, within-refl, within-trans, within-seq, within-alt, within-left, within-then, same-skip}
@@ -80,7 +80,7 @@ module _ (x s : ℕ) (cs : Forest) {es ds : List Evaluation} (ps : Pairwise Eval
   child : (n : ℕ) → EvaluationWithin (nth noEvaluation n es) (nth noEvaluation n ds)
   child n = related-at noEvaluation noEvaluation n none-within ps
 
-  class-within : (k : ExprClass) → EvaluationWithin (evaluationOf rowOrder x k s cs es) (evaluationOf freeOrder x k s cs ds)
+  class-within : (k : ExprClass) → EvaluationWithin (evaluationOf (under row-order) x k s cs es) (evaluationOf (under free-order) x k s cs ds)
   class-within Ident = free-within within-refl
   class-within Opaque = free-within within-refl
   class-within Unary = cond-within (eqb s 1) (asked-within (λ t. child 0 .truth (opposite t))) (free-within (child 0 .value))
@@ -94,10 +94,10 @@ module _ (x s : ℕ) (cs : Forest) {es ds : List Evaluation} (ps : Pairwise Eval
   class-within Event = free-within (together-within ps)
   class-within Other = free-within (together-within ps)
 
-row-within : (x k s lo hi : ℕ) (cs : Forest) → Pairwise EvaluationWithin (evaluations rowOrder x cs) (evaluations freeOrder x cs)
-    → EvaluationWithin (evaluationAt rowOrder x k s lo hi cs (evaluations rowOrder x cs)) (evaluationAt freeOrder x k s lo hi cs (evaluations freeOrder x cs))
+row-within : (x k s lo hi : ℕ) (cs : Forest) → Pairwise EvaluationWithin (evaluations (under row-order) x cs) (evaluations (under free-order) x cs)
+    → EvaluationWithin (evaluationAt (under row-order) x k s lo hi cs (evaluations (under row-order) x cs)) (evaluationAt (under free-order) x k s lo hi cs (evaluations (under free-order) x cs))
 unfolding evaluationAt
 row-within x k s lo hi cs ps = class-within x s cs ps (exprClass k)
 
-pub evaluations-within : (x : ℕ) (f : Forest) → Pairwise EvaluationWithin (evaluations rowOrder x f) (evaluations freeOrder x f)
-evaluations-within x f = fold-related (evaluationAt rowOrder x) (evaluationAt freeOrder x) (row-within x) f
+pub evaluations-within : (x : ℕ) (f : Forest) → Pairwise EvaluationWithin (evaluations (under row-order) x f) (evaluations (under free-order) x f)
+evaluations-within x f = fold-related (evaluationAt (under row-order) x) (evaluationAt (under free-order) x) (row-within x) f

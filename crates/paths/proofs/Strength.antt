@@ -16,7 +16,7 @@ use Rattle.reads.specs.PathRows.{isNamed, begins, count, segments, isLocal}
 use Rattle.reads.specs.Mentions.{inRowOrder, seenBelow, seenAt, seen, some, refers}
 use Rattle.reads.specs.Iffs.{iffHere, every, iffAt, iffQuiet}
 use Rattle.paths.specs.Commands.{PathEvent, read, write, choice, Ending, falls, stops, leaves, again, out-of-loop, out-of-round, Command, emit, exit, seq, star, catch, Runs}
-use Rattle.paths.specs.Semantics.{Semantics, rowOrder}
+use Rattle.paths.specs.Semantics.{row-order, Semantics, under}
 use Rattle.paths.specs.Evaluation.{Truth, is-true, is-false, is-unknown, Evaluation, noEvaluation, evaluationAt, evaluations}
 use Rattle.paths.proofs.Prefixes.{prefix}
 use Rattle.paths.specs.Each.{Each}
@@ -135,7 +135,7 @@ pub record Case : Type 0 where
   pub expected : List Run
 
 abbrev pub commandOf : Case → Command
-commandOf c = evaluatedAs (c .way) (nth noEvaluation 0 (evaluations rowOrder x (c .what nil)))
+commandOf c = evaluatedAs (c .way) (nth noEvaluation 0 (evaluations (under row-order) x (c .what nil)))
 
 -- no rounds are listed, since an expression has no loops
 abbrev pub shown : Case → List Run
@@ -515,7 +515,7 @@ otherLocal =
     (as-target, lident (5 ∷ [])) ∷
     []
 
-pub joint-others : map (λ c. listed 0 (evaluatedAs (c .0) (nth noEvaluation 0 (evaluations rowOrder 0 (c .1 nil))))) otherLocal ≡ map (λ t. (t, falls) ∷ []) ((read ∷ []) ∷ [] ∷ (read ∷ []) ∷ (read ∷ []) ∷ (write ∷ []) ∷ [] ∷ [] ∷ [])
+pub joint-others : map (λ c. listed 0 (evaluatedAs (c .0) (nth noEvaluation 0 (evaluations (under row-order) 0 (c .1 nil))))) otherLocal ≡ map (λ t. (t, falls) ∷ []) ((read ∷ []) ∷ [] ∷ (read ∷ []) ∷ (read ∷ []) ∷ (write ∷ []) ∷ [] ∷ [] ∷ [])
 unfolding fold evaluationAt exprClass numbered kindNumber kindOf placeFrom kinds same isNamed begins count segments isLocal listed eachFollowed followed
 joint-others = refl
 

@@ -1,4 +1,5 @@
--- Commands that all are run, each once and whole, in an order that is left open. Definitions only.
+-- Commands that all are run, each once and whole, in an order that is left open (docs/DECISIONS.md, 115). Of n commands there are n! ways:
+-- like all commands they are for proofs. Definitions only.
 use mathlib.Core.List.{List, [], _∷_}
 use Prim.Native.Nat.{ℕ, zero, suc}
 use lib.ListN.{length}

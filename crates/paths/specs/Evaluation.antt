@@ -1,6 +1,6 @@
 -- How an expression is evaluated: document 01, "How a path runs", and document 02, Paper 2, with the clauses of IEEE 1800 that fix
--- it in brackets. Where these leave the order open, row order is document 01's and free order is every one. Definitions only. Nothing
--- here is written from the Rust.
+-- it in brackets. Row order is document 01's; free order takes what document 01 evaluates in row order in any order, each child whole
+-- (docs/DECISIONS.md, 115). Definitions only. Nothing here is written from the Rust.
 use mathlib.Core.List.{List, [], _∷_, map}
 use mathlib.Core.Bool.{Bool, true, false, cond}
 use Prim.Native.Nat.{ℕ}
@@ -38,7 +38,7 @@ pub record Evaluation : Type 0 where
   pub value : Command
   -- where it is, and comes out so
   pub truth : Truth → Command
-  -- as the target of an assignment: its selects, then the write
+  -- as the target of an assignment in row order: its selects, then the write
   pub store : Command
   -- whether it is "the plain local", which as a target is written
   pub isPlainLocal : Bool
@@ -94,7 +94,8 @@ inOrder (e ∷ es) = seq (e .value) (inOrder es)
 abbrev pub values : List Evaluation → List Command
 values = map (λ e. e .value)
 
--- all of these: operands, parts, arguments, selects, expressions of a delay, events of a list
+-- all of these: parts of a concatenation, selects, expressions of a delay, events of a list, an event and its iff, and what else has
+-- more than two children
 abbrev pub together : Order → List Evaluation → Command
 together row-order es = inOrder es
 together free-order es = anyOrder (values es)
@@ -128,7 +129,7 @@ binary o s es =
     (cond (eqb s 2) (asked (either (nth noEvaluation 0 es) (nth noEvaluation 1 es)))
     (free (eitherFirst o (nth noEvaluation 0 es .value) (nth noEvaluation 1 es .value))))
 
--- "A call path beginning with the local reads", and the arguments; in free order its own path is one of its children
+-- "A call path beginning with the local reads", and the arguments are evaluated; in free order its own path is one of its children
 abbrev pub called : Order → Bool → List Evaluation → Command
 called row-order headed es = seq (readIf headed) (inOrder es)
 called free-order headed es = anyOrder (readIf headed ∷ values es)

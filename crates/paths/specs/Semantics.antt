@@ -1,6 +1,7 @@
--- What a reader of document 01 and of IEEE 1800 may choose before anything is evaluated. Definitions only.
+-- What a path depends on beside its sheet: in which order a tool evaluates what document 01 evaluates in row order. Definitions only.
 
--- The order of things that all are evaluated: "in row order" (document 01), or in any (11.3.5 and 4.6 leave it to the tool).
+-- "in row order" (document 01), or in any order, each child once and whole (docs/DECISIONS.md, 115): all operands are evaluated
+-- (11.3.5), and which of them first is not said (11.4.2)
 pub data Order : Type 0 where
   row-order free-order : Order
 
@@ -9,14 +10,10 @@ pub data InFreeOrder (P : Type 0) : Order → Type 0 where
   not-asked : InFreeOrder P row-order
   holds : P → InFreeOrder P free-order
 
--- under what rows are evaluated and statements run
+-- the parameters of evaluation and execution, in one record
 pub record Semantics : Type 0 where
   pub order : Order
 
--- document 01's
-abbrev pub rowOrder : Semantics
-rowOrder = record { order = row-order }
-
--- whatever a tool does
-abbrev pub freeOrder : Semantics
-freeOrder = record { order = free-order }
+-- with this order
+abbrev pub under : Order → Semantics
+under o = record { order = o }

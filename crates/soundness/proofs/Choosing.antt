@@ -11,7 +11,7 @@ use Rattle.paths.proofs.Rules.{rule-skip, rule-choice, rule-stops, rule-seq, ru
 use Rattle.paths.specs.Semantics.{Order}
 use Rattle.paths.specs.Evaluates.{AllEvaluate}
 use Rattle.paths.proofs.Evaluating.{in-order}
-use Rattle.stmt_paths.proofs.Forms.{matching-so}
+use Rattle.stmt_paths.proofs.Forms.{chosen-labels-so}
 use Rattle.stmt_paths.specs.Execution.{Execution, allLabels, hasDefault as defaultStands, armsFrom}
 use Rattle.da.specs.declared.DaOut.{DaOut}
 use Rattle.da.specs.declared.DaOut.the-variants.{Falls, Jumps}
@@ -85,7 +85,7 @@ module _ {after : State} where
     kept n true b no-arms = rule-stops
     kept n false b no-arms = loose (rule-seq (rule-choice n) all-so)
     kept n default b (one-arm {r = r} h k l) =
-        let labelled = either-labels (r .isDefault) all-so (rule-seq b (matching-so o h)) in
+        let labelled = either-labels (r .isDefault) all-so (rule-seq b (chosen-labels-so o h)) in
         rule-alt (rule-seq (rule-choice n) (rule-seq (loose labelled) (loose (sound-kept k)))) (kept (suc n) default (rule-seq b (in-order h)) l)
 
     -- where a default stands, one of the arms is run
@@ -93,7 +93,7 @@ module _ {after : State} where
         → Sound (known after) (armsFrom o n before all true rs) (Ok out)
     chosen n b no-arms = sound-jumps rule-stops
     chosen n b (one-arm {r = r} h k l) =
-        let labelled = either-labels (r .isDefault) all-so (rule-seq b (matching-so o h)) in
+        let labelled = either-labels (r .isDefault) all-so (rule-seq b (chosen-labels-so o h)) in
         sound-merge (sound-then (rule-choice n) (sound-then (loose labelled) k)) (chosen (suc n) (rule-seq b (in-order h)) l)
 
   -- a case after its scrutinee

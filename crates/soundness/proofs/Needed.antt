@@ -14,7 +14,7 @@ use Rattle.reads.specs.Mentions.{inRowOrder, passedOver, seenBelow, seenAt, see
 use Rattle.reads.specs.NoRef.{stmtNoRef}
 use Rattle.reads.specs.Iffs.{iffHere, every, iffAt, iffQuiet}
 use Rattle.paths.specs.Commands.{PathEvent, read, stops, run-skip, run-emit-stop, run-seq, run-off, run-left, run-right}
-use Rattle.paths.specs.Semantics.{freeOrder}
+use Rattle.paths.specs.Semantics.{free-order, under}
 use Rattle.paths.specs.AnyOrder.{anyOrder}
 use Rattle.paths.specs.Evaluation.{evaluationAt}
 use Rattle.paths.specs.Written.{ReadsWritten}
@@ -39,7 +39,7 @@ later = assignLater (bitOf toY X) lit nil
 pub record Needed : Type 0 where
   accepted : daStmt (daCtx x marks true) later unwritten ≡ Ok (Falls unwritten)
   iffs : iffQuiet x later ≡ true
-  path : IsPath freeOrder x marks later (read ∷ [])
+  path : IsPath (under free-order) x marks later (read ∷ [])
   wrong : ReadsWritten (read ∷ []) → ⊥
   -- the premises leave it out
   left-out : nonblockingQuiet x later ≡ false

@@ -6,7 +6,7 @@ use Prim.Native.Nat.{ℕ}
 use Rattle.table.specs.Rows.{Forest}
 use Rattle.reads.specs.Iffs.{iffQuiet}
 use Rattle.paths.specs.Commands.{PathEvent, falls, Runs}
-use Rattle.paths.specs.Semantics.{Order, InFreeOrder, Semantics}
+use Rattle.paths.specs.Semantics.{Order, InFreeOrder, under}
 use Rattle.paths.specs.Written.{Written, ReadsWritten}
 use Rattle.stmt_paths.specs.Execution.{executed, IsPath}
 use Rattle.stmt_paths.specs.Premises.{nonblockingQuiet, Premises}
@@ -21,7 +21,7 @@ use Rattle.da.specs.Walk.{daCtx, daStmt}
 -- of the local on its path has a whole write before it, provided" (the premises, at every row). "the call and loop facts are true":
 -- a path takes the side numbers as given. And whatever order a tool takes: that of document 01, or any other that IEEE 1800 leaves open.
 abbrev pub SafePaths : ℕ → (ℕ → Bool) → Forest → Type 0
-SafePaths x marks f = Premises x marks f → (sem : Semantics) (t : List PathEvent) → IsPath sem x marks f t → ReadsWritten t
+SafePaths x marks f = Premises x marks f → (o : Order) (t : List PathEvent) → IsPath (under o) x marks f t → ReadsWritten t
 
 -- what is asked of a tree beside that no iff refers: in row order nothing; in free order, in which a nonblocking's timing and selects may
 -- be evaluated at the statement, the premises on nonblocking rows
@@ -30,11 +30,11 @@ OrderPremise o x f = InFreeOrder (nonblockingQuiet x f ≡ true) o
 
 -- every path that falls through has written, if no iff refers to the local, nor what the order asks of nonblocking rows
 abbrev pub FallsWritten : ℕ → (ℕ → Bool) → Forest → Type 0
-FallsWritten x marks f = iffQuiet x f ≡ true → (sem : Semantics) → OrderPremise (sem .order) x f → (t : List PathEvent) → Runs (executed sem x marks f) t falls → Written t
+FallsWritten x marks f = iffQuiet x f ≡ true → (o : Order) → OrderPremise o x f → (t : List PathEvent) → Runs (executed (under o) x marks f) t falls → Written t
 
 -- no path falls through, if so
 abbrev pub NeverFalls : ℕ → (ℕ → Bool) → Forest → Type 0
-NeverFalls x marks f = iffQuiet x f ≡ true → (sem : Semantics) → OrderPremise (sem .order) x f → (t : List PathEvent) → Runs (executed sem x marks f) t falls → ⊥
+NeverFalls x marks f = iffQuiet x f ≡ true → (o : Order) → OrderPremise o x f → (t : List PathEvent) → Runs (executed (under o) x marks f) t falls → ⊥
 
 -- "If a sheet is accepted from the unwritten start"
 abbrev pub Demand3 : Type 0
@@ -46,10 +46,10 @@ Demand3FromIff =
     (x : ℕ) (marks : ℕ → Bool) (sole : Bool) (f : Forest)
     → Accepted (daStmt (daCtx x marks sole) f unwritten)
     → iffQuiet x f ≡ true
-    → (sem : Semantics)
-    → OrderPremise (sem .order) x f
+    → (o : Order)
+    → OrderPremise o x f
     → (t : List PathEvent)
-    → IsPath sem x marks f t
+    → IsPath (under o) x marks f t
     → ReadsWritten t
 
 -- what the walk's answer for a tree means, from a start

@@ -13,14 +13,14 @@ use lib.ListN.{length}
 use Rattle.table.specs.Rows.{Forest}
 use Rattle.kinds.specs.declared.StmtClass.the-variants.{Match, Case, Block, Systask}
 use Rattle.paths.specs.Commands.{PathEvent, Ending, falls, stops, choice, out-of-loop, Command, skip, emit, exit, seq, star, catch, Runs, run-stop, run-skip, run-seq, run-off, run-left, run-right, run-none, run-more, run-catch}
-use Rattle.paths.specs.Semantics.{Order, Semantics, rowOrder, freeOrder}
+use Rattle.paths.specs.Semantics.{Order, row-order, free-order, Semantics, under}
 use Rattle.paths.specs.Evaluation.{Evaluation, inOrder, values}
 use Rattle.kinds.proofs.Below.{true-not-false}
 use Rattle.paths.specs.Each.{Each}
 use Rattle.paths.proofs.Within.{Within, within-refl, within-trans, within-seq, within-left, within-right, within-catch, Same, same-refl, same-sym, same-trans, same-seq, same-skip, same-assoc}
 use Rattle.paths.proofs.AnyOrder.{InAnyOrder, in-any-order}
 use Rattle.paths.proofs.AnyLength.{in-turn, in-order-append}
-use Rattle.stmt_paths.specs.Execution.{Execution, oneByOne, hasDefault, noArm, allLabels, upToOne, matching, armsFrom, round, loop, executionOf}
+use Rattle.stmt_paths.specs.Execution.{Execution, oneByOne, hasDefault, noArm, allLabels, throughOne, chosenLabels, armsFrom, round, loop, executionOf}
 
 -- Rows of a block, arguments of a system task
 
@@ -32,10 +32,10 @@ module _ (x : ℕ) (marks : ℕ → Bool) (s : ℕ) (cs : Forest) (held : List (
 
   -- "A systask evaluates its arguments", however many
   pub every-systask-argument : (rs : List Execution) (before : List Evaluation) (e : Evaluation) (after : List Evaluation)
-      → Same (executionOf rowOrder x marks Systask s cs (before ++ (e ∷ after)) held rs .run) (seq (inOrder before) (seq (e .value) (inOrder after)))
+      → Same (executionOf (under row-order) x marks Systask s cs (before ++ (e ∷ after)) held rs .run) (seq (inOrder before) (seq (e .value) (inOrder after)))
   every-systask-argument rs before e after = in-order-append before (e ∷ after)
 
-  pub systask-in-any-order : (rs : List Execution) (es : List Evaluation) → InAnyOrder (values es) (executionOf freeOrder x marks Systask s cs es held rs .run)
+  pub systask-in-any-order : (rs : List Execution) (es : List Evaluation) → InAnyOrder (values es) (executionOf (under free-order) x marks Systask s cs es held rs .run)
   systask-in-any-order rs es = in-any-order (values es)
 
 -- Arms of a case
@@ -46,10 +46,10 @@ labelsOf [] = []
 labelsOf (r ∷ rs) = r .labels ++ labelsOf rs
 
 -- "scrutinee, then labels in row order through the chosen arm's (all of them for a default ...), then that arm", by its number from 0;
--- in free order "the labels of the chosen arm up to any one of them"
+-- in free order up to any one of the chosen arm's
 abbrev pub choosesArm : Order → Evaluation → List Execution → Execution → List Execution → Command
 choosesArm o c before r after =
-    seq (c .value) (seq (emit (choice (length before))) (seq (cond (r .isDefault) (inOrder (labelsOf (before ++ (r ∷ after)))) (seq (inOrder (labelsOf before)) (matching o (r .labels)))) (r .run)))
+    seq (c .value) (seq (emit (choice (length before))) (seq (cond (r .isDefault) (inOrder (labelsOf (before ++ (r ∷ after)))) (seq (inOrder (labelsOf before)) (chosenLabels o (r .labels)))) (r .run)))
 
 -- "all of them for ... no arm", by "the count of arms"
 abbrev pub choosesNone : Evaluation → List Execution → Command
@@ -71,7 +71,7 @@ all-labels (r ∷ rs) = same-trans (in-order-append (r .labels) (labelsOf rs)) (
 
 -- the labels of the chosen arm in free order: up to each one of them, and nothing else
 
-pub every-label : (before : List Evaluation) (e : Evaluation) (after : List Evaluation) → Within (inOrder (before ++ (e ∷ []))) (upToOne (before ++ (e ∷ after)))
+pub every-label : (before : List Evaluation) (e : Evaluation) (after : List Evaluation) → Within (inOrder (before ++ (e ∷ []))) (throughOne (before ++ (e ∷ after)))
 every-label [] e after = within-seq within-refl (within-left within-refl)
 every-label (b ∷ before) e after = within-seq within-refl (within-right (every-label before e after))
 
@@ -79,7 +79,7 @@ pub data LabelsRun (es : List Evaluation) (t : List PathEvent) (o : Ending) : Ty
   of-no-label : es ≡ [] → Runs skip t o → LabelsRun es t o
   up-to-label : (before : List Evaluation) (e : Evaluation) (after : List Evaluation) → es ≡ before ++ (e ∷ after) → Runs (inOrder (before ++ (e ∷ []))) t o → LabelsRun es t o
 
-pub only-labels : (es : List Evaluation) (t : List PathEvent) (o : Ending) → Runs (upToOne es) t o → LabelsRun es t o
+pub only-labels : (es : List Evaluation) (t : List PathEvent) (o : Ending) → Runs (throughOne es) t o → LabelsRun es t o
 only-labels [] t o x = of-no-label refl x
 only-labels (e ∷ es) _ _ run-stop = up-to-label [] e es refl run-stop
 only-labels (e ∷ es) _ _ (run-off i x) = up-to-label [] e es refl (run-off i x)
@@ -95,14 +95,14 @@ only-labels (e ∷ es) _ _ (run-seq {s = s} {t = t} {o = o} x (run-right y)) = l
 module _ (o : Order) where
   -- number m + count of `before`
   abbrev armFrom : ℕ → Command → Command → List Execution → Execution → Command
-  armFrom m first all before r = seq (emit (choice (m + length before))) (seq (cond (r .isDefault) all (seq first (seq (inOrder (labelsOf before)) (matching o (r .labels))))) (r .run))
+  armFrom m first all before r = seq (emit (choice (m + length before))) (seq (cond (r .isDefault) all (seq first (seq (inOrder (labelsOf before)) (chosenLabels o (r .labels))))) (r .run))
 
   module _ (m : ℕ) (first all : Command) (r : Execution) where
     by-default : (default : Bool) {c d : Command} → Same c d → Same (cond default all c) (cond default all d)
     by-default true p = same-refl
     by-default false p = p
 
-    arm-first : Same (seq (emit (choice m)) (seq (cond (r .isDefault) all (seq first (matching o (r .labels)))) (r .run))) (armFrom m first all [] r)
+    arm-first : Same (seq (emit (choice m)) (seq (cond (r .isDefault) all (seq first (chosenLabels o (r .labels)))) (r .run))) (armFrom m first all [] r)
     arm-first = rw (add-zero m) (same-seq same-refl (same-seq (by-default (r .isDefault) (same-seq same-refl same-skip)) same-refl))
 
     arm-later : (b : Execution) (before : List Execution) → Same (armFrom m first all (b ∷ before) r) (armFrom (suc m) (seq first (inOrder (b .labels))) all before r)
@@ -110,7 +110,7 @@ module _ (o : Order) where
         let e : m + suc (length before) ≡ suc m + length before = omega arith in
         rw e (same-seq same-refl (same-seq (by-default (r .isDefault) labels) same-refl))
       where
-        labels : Same (seq first (seq (inOrder (b .labels ++ labelsOf before)) (matching o (r .labels)))) (seq (seq first (inOrder (b .labels))) (seq (inOrder (labelsOf before)) (matching o (r .labels))))
+        labels : Same (seq first (seq (inOrder (b .labels ++ labelsOf before)) (chosenLabels o (r .labels)))) (seq (seq first (inOrder (b .labels))) (seq (inOrder (labelsOf before)) (chosenLabels o (r .labels))))
         labels = same-trans (same-seq same-refl (same-trans (same-seq (in-order-append (b .labels) (labelsOf before)) same-refl) (same-sym same-assoc))) same-assoc
 
 none-later : (m : ℕ) (all : Command) (rs : List Execution) (default : Bool) → noArm default (m + suc (length rs)) all ≡ noArm default (suc m + length rs) all
@@ -146,7 +146,7 @@ labels-through labels rs false = same-skip
 
 arm-chosen : (o : Order) (c : Evaluation) (before : List Execution) (r : Execution) (after : List Execution) → Same (choosesArm o c before r after) (seq (c .value) (armFrom o 0 skip (allLabels (before ++ (r ∷ after))) before r))
 arm-chosen o c before r after =
-    rw (zero-add (length before)) (same-seq same-refl (same-seq same-refl (same-seq (labels-through (seq (inOrder (labelsOf before)) (matching o (r .labels))) (before ++ (r ∷ after)) (r .isDefault)) same-refl)))
+    rw (zero-add (length before)) (same-seq same-refl (same-seq same-refl (same-seq (labels-through (seq (inOrder (labelsOf before)) (chosenLabels o (r .labels))) (before ++ (r ∷ after)) (r .isDefault)) same-refl)))
 
 no-default : (rs : List Execution) → NoDefault rs → hasDefault rs ≡ false
 no-default [] n = refl

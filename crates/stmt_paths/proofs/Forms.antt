@@ -10,16 +10,16 @@ use Rattle.paths.specs.Evaluates.{Evaluates, AllEvaluate, no-more, one-more}
 use Rattle.paths.proofs.Rules.{rule-skip, rule-seq, rule-alt}
 use Rattle.paths.proofs.AnyOrder.{Keeps, the-first, rule-any-gains}
 use Rattle.paths.proofs.Evaluating.{in-order, all-together, evaluates-lift, write-keeps}
-use Rattle.stmt_paths.specs.Execution.{upToOne, matching, assignment, orNot, nonblocking}
+use Rattle.stmt_paths.specs.Execution.{throughOne, chosenLabels, assignment, orNot, nonblocking}
 
 -- the labels of the chosen arm
-up-to-one : {m : Mark} {es : List Evaluation} → AllEvaluate m es → Keeps m (upToOne es)
-up-to-one no-more = rule-skip
-up-to-one (one-more h hs) = rule-seq (h .value) (rule-alt rule-skip (up-to-one hs))
+through-one : {m : Mark} {es : List Evaluation} → AllEvaluate m es → Keeps m (throughOne es)
+through-one no-more = rule-skip
+through-one (one-more h hs) = rule-seq (h .value) (rule-alt rule-skip (through-one hs))
 
-pub matching-so : (o : Order) {m : Mark} {es : List Evaluation} → AllEvaluate m es → Keeps m (matching o es)
-matching-so row-order h = in-order h
-matching-so free-order h = up-to-one h
+pub chosen-labels-so : (o : Order) {m : Mark} {es : List Evaluation} → AllEvaluate m es → Keeps m (chosenLabels o es)
+chosen-labels-so row-order h = in-order h
+chosen-labels-so free-order h = through-one h
 
 -- each of a list, from more
 lift-each : {a b : Mark} {es : List Evaluation} → a ⊑ b → AllEvaluate a es → AllEvaluate b es

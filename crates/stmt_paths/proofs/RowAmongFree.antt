@@ -12,12 +12,12 @@ use Rattle.kinds.specs.declared.StmtClass.{StmtClass}
 use Rattle.kinds.specs.declared.StmtClass.the-variants.{Absent, Match, Default, Decl, Blocking, Nonblocking, If, Return, Case, For, While, Repeat, Forever, Block, Fork, Systask, Task, Delayctrl, Eventctrl, Wait, Disable, Null, Unmodelled, NoStmt}
 use Rattle.kinds.specs.Named.{stmtClass}
 use Rattle.paths.specs.Commands.{PathEvent, out-of-loop, out-of-round, Command, skip, seq, run-skip, run-seq, run-right}
-use Rattle.paths.specs.Semantics.{row-order, free-order, rowOrder, freeOrder}
+use Rattle.paths.specs.Semantics.{row-order, free-order, under}
 use Rattle.paths.specs.Evaluation.{is-true, is-false, is-unknown, Evaluation, inOrder, noEvaluation, evaluations}
 use Rattle.paths.proofs.Within.{Within, within-refl, within-trans, within-seq, within-alt, within-right, within-star, within-catch, within-then, same-assoc}
 use Rattle.paths.proofs.AnyOrder.{as-they-stand, every-order}
 use Rattle.paths.proofs.RowAmongFree.{EvaluationWithin, none-within, together-within, evaluations-within}
-use Rattle.stmt_paths.specs.Execution.{Execution, plain, noExecution, unmet, oneByOne, allLabels, hasDefault, noArm, matching, armsFrom, caseOf, loop, assignment, nonblocking, executionOf, heldAt, heldEvaluations, executionAt, executions, executed, IsPath}
+use Rattle.stmt_paths.specs.Execution.{Execution, plain, noExecution, unmet, oneByOne, allLabels, hasDefault, noArm, chosenLabels, armsFrom, caseOf, loop, assignment, nonblocking, executionOf, heldAt, heldEvaluations, executionAt, executions, executed, IsPath}
 
 -- however the row runs, its labels, and whether it is a default
 record ExecutionWithin (r q : Execution) : Type 0 where
@@ -51,9 +51,9 @@ labels-within : {rs qs : List Execution} → Pairwise ExecutionWithin rs qs → 
 labels-within no-pair = within-refl
 labels-within (pair p ps) = within-seq (in-order-within (p .labels)) (labels-within ps)
 
-matching-within : {es ds : List Evaluation} → Pairwise EvaluationWithin es ds → Within (matching row-order es) (matching free-order ds)
-matching-within no-pair = within-refl
-matching-within (pair p ps) = within-seq (p .value) (within-right (matching-within ps))
+chosen-labels-within : {es ds : List Evaluation} → Pairwise EvaluationWithin es ds → Within (chosenLabels row-order es) (chosenLabels free-order ds)
+chosen-labels-within no-pair = within-refl
+chosen-labels-within (pair p ps) = within-seq (p .value) (within-right (chosen-labels-within ps))
 
 -- a case
 same-default : {rs qs : List Execution} → Pairwise ExecutionWithin rs qs → hasDefault rs ≡ hasDefault qs
@@ -71,7 +71,7 @@ arms-within : (n : ℕ) (default : Bool) {rs qs : List Execution} {before before
     → Within (armsFrom row-order n before all default rs) (armsFrom free-order n before′ all′ default qs)
 arms-within n default no-pair p q = no-arm-within default n q
 arms-within n default (pair {x = r} {y = s} h hs) p q =
-    within-alt (within-seq within-refl (within-seq (chosen-within (r .isDefault) (s .isDefault) (h .default) q (within-seq p (matching-within (h .labels)))) (h .run)))
+    within-alt (within-seq within-refl (within-seq (chosen-within (r .isDefault) (s .isDefault) (h .default) q (within-seq p (chosen-labels-within (h .labels)))) (h .run)))
     (arms-within (suc n) default hs (within-seq p (in-order-within (h .labels))) q)
 
 case-within : {e d : Evaluation} {rs qs : List Execution} → EvaluationWithin e d → Pairwise ExecutionWithin rs qs → Within (caseOf row-order e rs) (caseOf free-order d qs)
@@ -106,7 +106,7 @@ module _ (x : ℕ) (marks : ℕ → Bool) (s : ℕ) (cs : Forest) {es ds : List 
   child : (n : ℕ) → ExecutionWithin (nth noExecution n rs) (nth noExecution n qs)
   child n = related-at noExecution noExecution n nothing-within pr
 
-  class-within : (k : StmtClass) → ExecutionWithin (executionOf rowOrder x marks k s cs es held rs) (executionOf freeOrder x marks k s cs ds held′ qs)
+  class-within : (k : StmtClass) → ExecutionWithin (executionOf (under row-order) x marks k s cs es held rs) (executionOf (under free-order) x marks k s cs ds held′ qs)
   class-within Match = record { run = child 0 .run; labels = related-tail pe; default = refl }
   class-within Default = record { run = child 0 .run; labels = no-pair; default = refl }
   class-within Decl = plainly (expr 0 .value)
@@ -132,23 +132,23 @@ module _ (x : ℕ) (marks : ℕ → Bool) (s : ℕ) (cs : Forest) {es ds : List 
   class-within Absent = nothing-within
   class-within NoStmt = nothing-within
 
-held-within : (x : ℕ) (f : Forest) → Pairwise EvaluationWithin (nth [] 0 (heldEvaluations rowOrder x f)) (nth [] 0 (heldEvaluations freeOrder x f))
+held-within : (x : ℕ) (f : Forest) → Pairwise EvaluationWithin (nth [] 0 (heldEvaluations (under row-order) x f)) (nth [] 0 (heldEvaluations (under free-order) x f))
 unfolding fold heldAt
 held-within x nil = no-pair
 held-within x (node k s lo hi cs others) = evaluations-within x cs
 
 module _ (x : ℕ) (marks : ℕ → Bool) where
-  row-within : (k s lo hi : ℕ) (cs : Forest) → Pairwise ExecutionWithin (executions rowOrder x marks cs) (executions freeOrder x marks cs)
-      → ExecutionWithin (executionAt rowOrder x marks k s lo hi cs (executions rowOrder x marks cs)) (executionAt freeOrder x marks k s lo hi cs (executions freeOrder x marks cs))
+  row-within : (k s lo hi : ℕ) (cs : Forest) → Pairwise ExecutionWithin (executions (under row-order) x marks cs) (executions (under free-order) x marks cs)
+      → ExecutionWithin (executionAt (under row-order) x marks k s lo hi cs (executions (under row-order) x marks cs)) (executionAt (under free-order) x marks k s lo hi cs (executions (under free-order) x marks cs))
   unfolding executionAt
-  row-within k s lo hi cs ps = class-within x marks s cs (heldEvaluations rowOrder x cs) (heldEvaluations freeOrder x cs) (evaluations-within x cs) (held-within x cs) ps (stmtClass k)
+  row-within k s lo hi cs ps = class-within x marks s cs (heldEvaluations (under row-order) x cs) (heldEvaluations (under free-order) x cs) (evaluations-within x cs) (held-within x cs) ps (stmtClass k)
 
-  executions-within : (f : Forest) → Pairwise ExecutionWithin (executions rowOrder x marks f) (executions freeOrder x marks f)
-  executions-within f = fold-related (executionAt rowOrder x marks) (executionAt freeOrder x marks) row-within f
+  executions-within : (f : Forest) → Pairwise ExecutionWithin (executions (under row-order) x marks f) (executions (under free-order) x marks f)
+  executions-within f = fold-related (executionAt (under row-order) x marks) (executionAt (under free-order) x marks) row-within f
 
-  pub executed-within : (f : Forest) → Within (executed rowOrder x marks f) (executed freeOrder x marks f)
+  pub executed-within : (f : Forest) → Within (executed (under row-order) x marks f) (executed (under free-order) x marks f)
   executed-within f = related-at noExecution noExecution 0 nothing-within (executions-within f) .run
 
   -- every path in row order is one in free order
-  pub row-among-free : (f : Forest) (t : List PathEvent) → IsPath rowOrder x marks f t → IsPath freeOrder x marks f t
+  pub row-among-free : (f : Forest) (t : List PathEvent) → IsPath (under row-order) x marks f t → IsPath (under free-order) x marks f t
   row-among-free f t p = record { ending = p .ending; runs = executed-within f .go t (p .ending) (p .runs) }

@@ -16,7 +16,7 @@ use Rattle.kinds.specs.Named.{kindNumber, numbered, exprClass, stmtWords, stmtC
 use Rattle.reads.specs.PathRows.{isNamed, begins, count, segments, isLocal, isMarked, isLoopJump}
 use Rattle.reads.specs.Mentions.{inRowOrder, seenBelow, seenAt, seen, some, refers}
 use Rattle.paths.specs.Commands.{PathEvent, read, write, outside, choice, falls, stops, leaves, again, Command}
-use Rattle.paths.specs.Semantics.{Semantics, rowOrder}
+use Rattle.paths.specs.Semantics.{row-order, Semantics, under}
 use Rattle.paths.specs.Evaluation.{evaluationAt}
 use Rattle.paths.specs.Each.{Each}
 use Rattle.paths.proofs.Listed.{Run, IsRun, followed, eachFollowed, rounds, listed, each-imply, each-expected, loopless}
@@ -144,7 +144,7 @@ pub record Case : Type 0 where
   pub expected : List Run
 
 abbrev pub commandOf : Case → Command
-commandOf c = executed rowOrder x marks (c .what nil)
+commandOf c = executed (under row-order) x marks (c .what nil)
 
 abbrev pub shown : Case → List Run
 shown c = shortened (c .extent) (listed (c .most) (commandOf c))
@@ -603,10 +603,10 @@ must-run = each-expected (λ c. Each (IsRun (commandOf c))) shown (λ c. c .expe
 -- and is a path, however it ends
 
 abbrev pub MustBePaths : Case → Type 0
-MustBePaths c = Each (λ r. IsPath rowOrder x marks (c .what nil) (r .0)) (c .expected)
+MustBePaths c = Each (λ r. IsPath (under row-order) x marks (c .what nil) (r .0)) (c .expected)
 
 runs-are-paths : (c : Case) → MustRun c → MustBePaths c
-runs-are-paths c = each-imply (IsRun (commandOf c)) (λ r. IsPath rowOrder x marks (c .what nil) (r .0)) (λ r h. record { ending = r .1; runs = h }) (c .expected)
+runs-are-paths c = each-imply (IsRun (commandOf c)) (λ r. IsPath (under row-order) x marks (c .what nil) (r .0)) (λ r h. record { ending = r .1; runs = h }) (c .expected)
 
 pub must-be-paths : Each MustBePaths cases
 must-be-paths = each-imply MustRun MustBePaths runs-are-paths cases must-run
@@ -633,7 +633,7 @@ loopless-cases = refl
 abbrev otherLocal : List Row
 otherLocal = assign (lident (0 ∷ [])) (ident (0 ∷ [])) ∷ disable (1 ∷ []) ∷ disable (j ∷ []) ∷ task (0 ∷ 1 ∷ []) [] 3 ∷ task (x ∷ 1 ∷ []) [] 3 ∷ []
 
-pub joint-others : map (λ r. listed 0 (executed rowOrder 0 (λ n. eqb n 1) (r nil))) otherLocal ≡ fall ((read ∷ write ∷ []) ∷ []) ∷ ((choice 0 ∷ [], leaves) ∷ (choice 1 ∷ [], again) ∷ []) ∷ fall ([] ∷ []) ∷ fall ((read ∷ []) ∷ []) ∷ fall ([] ∷ []) ∷ []
+pub joint-others : map (λ r. listed 0 (executed (under row-order) 0 (λ n. eqb n 1) (r nil))) otherLocal ≡ fall ((read ∷ write ∷ []) ∷ []) ∷ ((choice 0 ∷ [], leaves) ∷ (choice 1 ∷ [], again) ∷ []) ∷ fall ([] ∷ []) ∷ fall ((read ∷ []) ∷ []) ∷ fall ([] ∷ []) ∷ []
 unfolding fold evaluationAt heldAt executionAt exprClass stmtClass stmtClassIn stmtWords taskEffect numbered kindNumber kindOf placeFrom kinds same isNamed begins count segments isLocal isMarked isLoopJump inRowOrder seenBelow seenAt seen some refers listed eachFollowed followed rounds
 joint-others = refl
 

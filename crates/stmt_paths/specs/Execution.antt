@@ -1,6 +1,7 @@
 -- How a statement runs: document 01, "How a path runs", and document 02, Paper 2, with the clauses of IEEE 1800 that fix it in
--- brackets. Where these leave the order open, row order is document 01's and free order is every one. Definitions only. Nothing here
--- is written from the Rust. A choice has the number by which document 02, Paper 6, tells it.
+-- brackets. Row order is document 01's; free order takes what document 01 evaluates in row order in any order, each child whole
+-- (docs/DECISIONS.md, 115). Definitions only. Nothing here is written from the Rust. A choice has the number by which document 02,
+-- Paper 6, tells it.
 use mathlib.Core.List.{List, [], _∷_}
 use mathlib.Core.Bool.{Bool, true, false, cond, _&&_, _||_, not}
 use Prim.Native.Nat.{ℕ, suc}
@@ -63,15 +64,15 @@ abbrev pub noArm : Bool → ℕ → Command → Command
 noArm true n all = exit stops
 noArm false n all = seq (emit (choice n)) all
 
--- the first of these labels, or more of them: a tool stops at the one that matches (12.5)
-abbrev pub upToOne : List Evaluation → Command
-upToOne [] = skip
-upToOne (e ∷ es) = seq (e .value) (alt skip (upToOne es))
+-- these labels up to any one of them: the search ends at the one that matches (12.5)
+abbrev pub throughOne : List Evaluation → Command
+throughOne [] = skip
+throughOne (e ∷ es) = seq (e .value) (alt skip (throughOne es))
 
--- the labels of the chosen arm: "through the chosen arm's", or up to any one of them
-abbrev pub matching : Order → List Evaluation → Command
-matching row-order es = inOrder es
-matching free-order es = upToOne es
+-- the labels of the chosen arm: "through the chosen arm's", or in free order up to any one of them
+abbrev pub chosenLabels : Order → List Evaluation → Command
+chosenLabels row-order es = inOrder es
+chosenLabels free-order es = throughOne es
 
 -- the arms from number n on: the choice of one, then "labels in row order through the chosen arm's (all of them for a default ...),
 -- then that arm"; the labels of the arms before these come first
@@ -79,7 +80,7 @@ abbrev pub armsFrom : Order → ℕ → Command → Command → Bool → List Ex
 armsFrom o n before all default [] = noArm default n all
 armsFrom o n before all default (r ∷ rs) =
     alt
-    (seq (emit (choice n)) (seq (cond (r .isDefault) all (seq before (matching o (r .labels)))) (r .run)))
+    (seq (emit (choice n)) (seq (cond (r .isDefault) all (seq before (chosenLabels o (r .labels)))) (r .run)))
     (armsFrom o (suc n) (seq before (inOrder (r .labels))) all default rs)
 
 -- "Case: scrutinee, then labels ..., then that arm" (12.5)
@@ -128,7 +129,7 @@ abbrev pub waitFor : Evaluation → Command → Command
 waitFor c body = alt (seq (c .truth is-true) body) (seq (unmet c) (exit stops))
 
 -- "Assignment: right side, delay, event, target selects, then the write if the target is the plain local" (10.4.1, 9.4.5); in free
--- order these four in any, "all before its write"
+-- order these four in any, all before the write (4.9.3 has the target of a delayed one found after its wait)
 abbrev pub assignment : Order → List Evaluation → Evaluation → Evaluation → Evaluation → Command
 assignment row-order delays event target right = seq (right .value) (seq (inOrder delays) (seq (event .value) (target .store)))
 assignment free-order delays event target right =
@@ -138,8 +139,8 @@ assignment free-order delays event target right =
 abbrev pub orNot : Command → Command
 orNot c = alt c skip
 
--- "Nonblocking: right side only" (10.4.2); in free order also delay, event and selects, "each as one whole child that is evaluated or
--- not": a tool may evaluate them at the statement (4.9.4)
+-- "Nonblocking: right side only" (10.4.2); in free order also delay, event and selects, each as one whole child that is evaluated or not:
+-- a tool evaluates them at the statement (4.9.4, 9.4.5), but for what it leaves to the update
 abbrev pub nonblocking : Order → List Evaluation → Evaluation → Evaluation → Evaluation → Command
 nonblocking row-order delays event target right = right .value
 nonblocking free-order delays event target right =

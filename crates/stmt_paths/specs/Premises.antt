@@ -87,7 +87,7 @@ plainEach x = fold (plainAt x)
 abbrev pub nonblockingHolds : List Bool → List Bool → Bool
 nonblockingHolds refer plain = not (nth false 0 refer) && (not (nth false 1 refer) && (nth false 2 plain || not (nth false 2 refer)))
 
--- of a row of any kind
+-- the same of a row of any kind
 unfoldable pub nonblockingHere : ℕ → ℕ → Forest → Bool
 nonblockingHere x k cs = cond (eqb k (numbered "nonblocking")) (nonblockingHolds (refersEach x cs) (plainEach x cs)) true
 
@@ -137,7 +137,7 @@ IsA word r = r .kind ≡ numbered word
 -- The premises at one row, in the words of demand 3. What is left out where one fails: a disable that is no loop jump leaves a
 -- block, which a path does not; a jump in an init or step, or outside any loop, has no loop of its own to leave; an inner
 -- declaration hides the local, and its reads and writes are none of the local's; a nonblocking's timing is evaluated when the
--- assignment is scheduled, its target written later, which a path does not show; iff is never looked at by the walk.
+-- assignment is scheduled, its target written later, which a path in row order does not show; iff is never looked at by the walk.
 pub record RowPremises (x : ℕ) (marks : ℕ → Bool) (r : PlacedRow) : Type 0 where
   -- "its disables are only loop jumps"
   pub loop-jumps : IsA "disable" r → isLoopJump marks (r .children) ≡ true

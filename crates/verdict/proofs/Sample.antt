@@ -27,7 +27,7 @@ use Rattle.expr_effect.specs.Effect.{exprEffectAt}
 use Rattle.expr_effect.specs.Law.{factsAt}
 use Rattle.paths.specs.Commands.{PathEvent}
 use Rattle.paths.specs.Written.{ReadsWritten}
-use Rattle.paths.specs.Semantics.{Semantics}
+use Rattle.paths.specs.Semantics.{Order, under}
 use Rattle.stmt_paths.specs.Execution.{IsPath}
 use Rattle.stmt_paths.proofs.PremiseTest.{all-hold}
 use Rattle.stmt_paths.specs.Premises.{placeOf, placedBelow, placedAt, placedTogether, placedRows, refersAt, plainAt, rowHolds, nowhere, firstFalse, firstFailing}
@@ -64,5 +64,5 @@ unfolding verdictOf askOf recordHeld recordFits marksFit tableChecked fieldsAt a
 sampled = record { listed = refl; printed = refl; accepted = refl; start = refl; jump = refl; no-jump = refl; premises = refl }
 
 -- so the demand speaks of it, and of all its paths
-pub jumping-safe : (sem : Semantics) (t : List PathEvent) → IsPath sem (sheetOf jumping .local) (sheetOf jumping .marks) (sheetOf jumping .tree) t → ReadsWritten t
+pub jumping-safe : (o : Order) (t : List PathEvent) → IsPath (under o) (sheetOf jumping .local) (sheetOf jumping .marks) (sheetOf jumping .tree) t → ReadsWritten t
 jumping-safe = sheet-demand-3 jumping 60 6 (subst AcceptedAnswer (sym (sampled .accepted)) tt) (sampled .start) (all-hold (sheetOf jumping .local) (sheetOf jumping .marks) (sheetOf jumping .tree) (sampled .premises))
