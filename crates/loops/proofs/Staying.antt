@@ -24,7 +24,7 @@ use Rattle.paths.proofs.Evaluating.{in-order, all-together, evaluates-place, ev
 use Rattle.paths.proofs.Built.{calm-all}
 use Rattle.stmt_paths.specs.Execution.{Execution, plain, noExecution, oneByOne, allLabels, hasDefault, noArm, armsFrom, loop, isPassedOver, byEffect, executionOf, heldAt, heldEvaluations, executionAt, executions, executed}
 use Rattle.stmt_paths.proofs.Conditions.{unmet-so}
-use Rattle.stmt_paths.proofs.Forms.{chosen-labels-so, target-keeps, right-keeps, assignment-so, Others, nonblocking-so}
+use Rattle.stmt_paths.proofs.UnderOrder.{chosen-labels-so, target-keeps, right-keeps, assignment-so, Others, nonblocking-so}
 use Rattle.loops.specs.Escape.{transfers, cannotEscapeAt, cannotEscapes, cannotEscape}
 
 -- no run jumps

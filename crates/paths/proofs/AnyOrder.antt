@@ -41,7 +41,7 @@ module _ (P : Command → Type 0) (of : Composes P) where
 
   pub any-order-of : (cs : List Command) → Each P cs → P (anyOrder cs)
   unfolding anyOrder
-  any-order-of cs h = picked-of (length cs) cs h
+  any-order-of cs h = picked-of _ cs h
 
 -- Permutations
 
@@ -118,7 +118,7 @@ some-order (suc n) (c ∷ cs) t o r = chosen (some-order n) (picked-run (λ othe
 
 pub only-orders : (cs : List Command) (t : List PathEvent) (o : Ending) → Runs (anyOrder cs) t o → InSomeOrder cs t o
 unfolding anyOrder
-only-orders cs t o r = some-order (length cs) cs t o r
+only-orders cs t o r = some-order _ cs t o r
 
 -- the runs of a command are those of these commands, each once and whole, in whatever order
 pub record InAnyOrder (cs : List Command) (c : Command) : Type 0 where

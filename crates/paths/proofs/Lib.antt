@@ -4,10 +4,11 @@ pub mod Prefixes
 pub mod Evaluating
 pub mod Within
 pub mod AnyOrder
-pub mod RowAmongFree
+pub mod WithinFree
 pub mod Unknown
 pub mod TwoValued
 pub mod AnyLength
 pub mod Built
 pub mod Listed
 pub mod Strength
+pub mod AllOrders

@@ -1,12 +1,15 @@
 -- The complete runs of a command, listed: what a theorem about all runs cannot notice is missing, a list of runs shows.
-use mathlib.Core.Path.{_≡_, sym, ap, subst}
-use mathlib.Core.Bool.{Bool, true, false, _&&_}
+use mathlib.Core.Path.{_≡_, refl, sym, ap, subst, _∙_}
+use mathlib.Core.Logic.{_⊎_, inl, inr, ⊎-elim}
+use mathlib.Core.Bool.{Bool, true, false, _&&_, _||_}
 use mathlib.Core.List.{List, [], _∷_, _++_, map}
+use lib.Dec.{eqb}
+use borrow.Author.Tests.{eqb-true}
 use Rattle.table.specs.Fold.{nth, tail}
 use Rattle.kinds.proofs.Below.{both-true, true-not-false}
 use Prim.Native.Nat.{ℕ, zero, suc}
 use Rattle.paths.specs.Each.{Each}
-use Rattle.paths.specs.Commands.{PathEvent, Ending, falls, stops, leaves, again, Jump, out-of-loop, out-of-round, Command, skip, emit, exit, seq, alt, star, catch, caught, Elsewhere, Runs, run-stop, run-skip, run-emit, run-emit-stop, run-exit, run-seq, run-off, run-left, run-right, run-none, run-more, run-catch}
+use Rattle.paths.specs.Commands.{PathEvent, read, write, outside, choice, Ending, falls, stops, leaves, again, Jump, out-of-loop, out-of-round, Command, skip, emit, exit, seq, alt, star, catch, caught, Elsewhere, Runs, run-stop, run-skip, run-emit, run-emit-stop, run-exit, run-seq, run-off, run-left, run-right, run-none, run-more, run-catch}
 
 -- what happens, and how it ends
 abbrev pub Run : Type 0
@@ -183,3 +186,116 @@ all-listed n q e (run-right {c = c} {d = d} x) = among-right (listed n c) (all-l
 all-listed n q e run-none = true-not-false (sym q)
 all-listed n q e (run-more x) = true-not-false (sym q)
 all-listed n q e (run-catch {j = j} {o = o} x) = among-map (λ r. (r .0, caught j (r .1))) (all-listed n q (settled-inside j o e) x)
+
+-- Lists with the same members, whatever their order and however often each
+
+-- an event and an ending as numbers, and back
+abbrev eventNumber : PathEvent → ℕ
+eventNumber read = 0
+eventNumber write = 1
+eventNumber outside = 2
+eventNumber (choice n) = suc (suc (suc n))
+
+abbrev eventOf : ℕ → PathEvent
+eventOf zero = read
+eventOf (suc zero) = write
+eventOf (suc (suc zero)) = outside
+eventOf (suc (suc (suc n))) = choice n
+
+event-back : (e : PathEvent) → eventOf (eventNumber e) ≡ e
+event-back read = refl
+event-back write = refl
+event-back outside = refl
+event-back (choice n) = refl
+
+abbrev endingNumber : Ending → ℕ
+endingNumber falls = 0
+endingNumber stops = 1
+endingNumber leaves = 2
+endingNumber again = 3
+
+abbrev endingOf : ℕ → Ending
+endingOf zero = falls
+endingOf (suc zero) = stops
+endingOf (suc (suc zero)) = leaves
+endingOf (suc (suc (suc n))) = again
+
+ending-back : (o : Ending) → endingOf (endingNumber o) ≡ o
+ending-back falls = refl
+ending-back stops = refl
+ending-back leaves = refl
+ending-back again = refl
+
+-- the two runs are the same
+unfoldable pub sameEvents : List PathEvent → List PathEvent → Bool
+sameEvents [] [] = true
+sameEvents [] (e ∷ t) = false
+sameEvents (d ∷ s) [] = false
+sameEvents (d ∷ s) (e ∷ t) = eqb (eventNumber d) (eventNumber e) && sameEvents s t
+
+unfoldable pub sameRun : Run → Run → Bool
+sameRun r q = eqb (endingNumber (r .1)) (endingNumber (q .1)) && sameEvents (r .0) (q .0)
+
+-- one of these is; all of the first are among the second; and the other way round
+unfoldable pub isAmong : Run → List Run → Bool
+isAmong r [] = false
+isAmong r (q ∷ qs) = sameRun q r || isAmong r qs
+
+unfoldable pub allAmong : List Run → List Run → Bool
+allAmong [] qs = true
+allAmong (r ∷ rs) qs = isAmong r qs && allAmong rs qs
+
+unfoldable pub sameRuns : List Run → List Run → Bool
+sameRuns rs qs = allAmong rs qs && allAmong qs rs
+
+same-number : (d e : PathEvent) → eqb (eventNumber d) (eventNumber e) ≡ true → d ≡ e
+same-number d e h = sym (event-back d) ∙ ap eventOf (eqb-true (eventNumber d) (eventNumber e) h) ∙ event-back e
+
+same-events : (s t : List PathEvent) → sameEvents s t ≡ true → s ≡ t
+unfolding sameEvents
+same-events [] [] h = refl
+same-events [] (e ∷ t) h = true-not-false (sym h)
+same-events (d ∷ s) [] h = true-not-false (sym h)
+same-events (d ∷ s) (e ∷ t) h = let b = both-true (eqb (eventNumber d) (eventNumber e)) (sameEvents s t) h in rw (same-number d e (b .0), same-events s t (b .1))
+
+same-run : (r q : Run) → sameRun r q ≡ true → r ≡ q
+unfolding sameRun
+same-run r q h =
+    let b = both-true (eqb (endingNumber (r .1)) (endingNumber (q .1))) (sameEvents (r .0) (q .0)) h in
+    let o : r .1 ≡ q .1 = sym (ending-back (r .1)) ∙ ap endingOf (eqb-true (endingNumber (r .1)) (endingNumber (q .1)) (b .0)) ∙ ending-back (q .1) in
+    ap (λ t. (t, r .1)) (same-events (r .0) (q .0) (b .1)) ∙ ap (λ o. (q .0, o)) o
+
+either-true : (b c : Bool) → b || c ≡ true → (b ≡ true) ⊎ (c ≡ true)
+either-true true c h = inl refl
+either-true false c h = inr h
+
+is-among : (r : Run) (qs : List Run) → isAmong r qs ≡ true → Among r qs
+unfolding isAmong
+is-among r [] h = true-not-false (sym h)
+is-among r (q ∷ qs) h = ⊎-elim (λ e. subst (λ p. Among p (q ∷ qs)) (same-run q r e) at-first) (λ e. at-later (is-among r qs e)) (either-true (sameRun q r) (isAmong r qs) h)
+
+all-among : (rs qs : List Run) → allAmong rs qs ≡ true → Each (λ r. Among r qs) rs
+unfolding allAmong
+all-among [] qs h = tt
+all-among (r ∷ rs) qs h = let b = both-true (isAmong r qs) (allAmong rs qs) h in (is-among r qs (b .0), all-among rs qs (b .1))
+
+-- what is so of each member of the one is so of each of the other
+each-among : {A : Type 0} (P : A → Type 0) {a : A} (xs : List A) → Among a xs → Each P xs → P a
+each-among P (x ∷ xs) at-first h = h .0
+each-among P (x ∷ xs) (at-later k) h = each-among P xs k (h .1)
+
+module _ (rs qs : List Run) (e : sameRuns rs qs ≡ true) where
+  same-parts : (allAmong rs qs ≡ true) × (allAmong qs rs ≡ true)
+  unfolding sameRuns
+  same-parts = both-true (allAmong rs qs) (allAmong qs rs) e
+
+  pub same-each : (P : Run → Type 0) → Each P rs → Each P qs
+  same-each P h = each-imply (λ r. Among r rs) P (λ r k. each-among P rs k h) qs (all-among qs rs (same-parts .1))
+
+  pub same-among : (r : Run) → Among r rs → Among r qs
+  same-among r k = each-among (λ q. Among q qs) rs k (all-among rs qs (same-parts .0))
+
+-- of lists that are compared one by one
+pub each-same : {A : Type 0} (P : A → List Run → Type 0) (shown expected : A → List Run) → ((a : A) → sameRuns (shown a) (expected a) ≡ true → P a (expected a)) → (cs : List A) → map (λ c. sameRuns (shown c) (expected c)) cs ≡ map (λ c. true) cs → Each (λ c. P c (expected c)) cs
+each-same P shown expected f [] e = tt
+each-same P shown expected f (c ∷ cs) e = (f c (ap (nth true 0) e), each-same P shown expected f cs (ap tail e))

@@ -11,7 +11,7 @@ use Rattle.paths.proofs.Rules.{rule-skip, rule-choice, rule-stops, rule-seq, ru
 use Rattle.paths.specs.Semantics.{Order}
 use Rattle.paths.specs.Evaluates.{AllEvaluate}
 use Rattle.paths.proofs.Evaluating.{in-order}
-use Rattle.stmt_paths.proofs.Forms.{chosen-labels-so}
+use Rattle.stmt_paths.proofs.UnderOrder.{chosen-labels-so}
 use Rattle.stmt_paths.specs.Execution.{Execution, allLabels, hasDefault as defaultStands, armsFrom}
 use Rattle.da.specs.declared.DaOut.{DaOut}
 use Rattle.da.specs.declared.DaOut.the-variants.{Falls, Jumps}

@@ -16,7 +16,7 @@ use Rattle.paths.proofs.Meaning.{reads-written, fall-is-written}
 use Rattle.stmt_paths.specs.Execution.{noExecution, executed, IsPath}
 use Rattle.stmt_paths.specs.Premises.{nowhere, firstFailing, Premises}
 use Rattle.stmt_paths.proofs.PremiseTest.{all-hold, premises-iff, premises-nonblocking}
-use Rattle.stmt_paths.proofs.RowAmongFree.{row-among-free}
+use Rattle.stmt_paths.proofs.WithinFree.{row-among-free}
 use Rattle.da.specs.declared.DaOut.the-variants.{Falls, Jumps}
 use Rattle.da.specs.declared.DaResult.{DaResult}
 use Rattle.da.specs.declared.DaResult.the-variants.{Ok}

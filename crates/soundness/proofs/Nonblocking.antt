@@ -28,7 +28,7 @@ use Rattle.expr_effect.specs.Law.{isPlain, ExprFacts, factsAt, exprFacts, noFac
 use Rattle.expr_effect.proofs.Laws.{none-refer}
 use Rattle.stmt_paths.specs.Premises.{refersAt, refersEach, plainAt, plainEach, nonblockingHolds, nonblockingHere, nonblockingAt, nonblockingQuiet}
 use Rattle.stmt_paths.proofs.PremiseTest.{either-or}
-use Rattle.stmt_paths.proofs.Forms.{Others}
+use Rattle.stmt_paths.proofs.UnderOrder.{Others}
 use Rattle.da.specs.Walk.{heldAt, heldFacts}
 use Rattle.soundness.proofs.Asking.{quiet-each}
 

@@ -32,7 +32,7 @@ use Rattle.expr_effect.specs.Law.{ExprFacts, noFacts, NoneRefer, none-left, Exp
 use Rattle.expr_effect.proofs.Laws.{expr-laws, no-law as no-expr-law, none-refer}
 use Rattle.stmt_paths.specs.Execution.{Execution, plain, noExecution, oneByOne, ifElse as ifRuns, caseOf as caseRuns, whileTrue as whileRuns, assignment, jump, executionOf, heldAt as heldEvaluationsAt, heldEvaluations, executionAt, executions}
 use Rattle.stmt_paths.proofs.Conditions.{unmet-so}
-use Rattle.stmt_paths.proofs.Forms.{Target, target-keeps, right-keeps, assignment-so, Others, nonblocking-so}
+use Rattle.stmt_paths.proofs.UnderOrder.{Target, target-keeps, right-keeps, assignment-so, Others, nonblocking-so}
 use Rattle.loops.proofs.Staying.{NeverJumps, stay, stay-at}
 use Rattle.da.specs.declared.DaOut.the-variants.{Falls, Jumps}
 use Rattle.da.specs.declared.DaResult.{DaResult}

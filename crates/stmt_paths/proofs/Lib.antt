@@ -1,7 +1,8 @@
 pub mod Conditions
-pub mod Forms
+pub mod UnderOrder
 pub mod AnyLength
 pub mod PremiseTest
 pub mod Numbering
 pub mod Strength
-pub mod RowAmongFree
+pub mod WithinFree
+pub mod AllOrders

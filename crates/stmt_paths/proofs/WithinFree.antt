@@ -16,7 +16,7 @@ use Rattle.paths.specs.Semantics.{row-order, free-order, under}
 use Rattle.paths.specs.Evaluation.{is-true, is-false, is-unknown, Evaluation, inOrder, noEvaluation, evaluations}
 use Rattle.paths.proofs.Within.{Within, within-refl, within-trans, within-seq, within-alt, within-right, within-star, within-catch, within-then, same-assoc}
 use Rattle.paths.proofs.AnyOrder.{as-they-stand, every-order}
-use Rattle.paths.proofs.RowAmongFree.{EvaluationWithin, none-within, together-within, evaluations-within}
+use Rattle.paths.proofs.WithinFree.{EvaluationWithin, none-within, together-within, evaluations-within}
 use Rattle.stmt_paths.specs.Execution.{Execution, plain, noExecution, unmet, oneByOne, allLabels, hasDefault, noArm, chosenLabels, armsFrom, caseOf, loop, assignment, nonblocking, executionOf, heldAt, heldEvaluations, executionAt, executions, executed, IsPath}
 
 -- however the row runs, its labels, and whether it is a default
