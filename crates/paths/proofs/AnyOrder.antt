@@ -1,6 +1,6 @@
--- In any order: what is so of commands however they are put together is so of them in any order; the runs are those of every
--- permutation and no others, however many there are; and the rules of triples. None of some commands needs what another leaves, which
--- is why no order does.
+-- In any order: the runs are those of every permutation and no others, however many there are; what is so of commands however they are put
+-- together is so of them in any order; and the rules of triples. None of some commands needs what another leaves, which is why no
+-- order does.
 use mathlib.Core.Path.{_≡_, refl, sym, ap, _∙_}
 use mathlib.Core.Logic.{_⊎_, inl, inr, ⊎-elim}
 use mathlib.Core.List.{List, [], _∷_, _++_}
@@ -16,32 +16,6 @@ use Rattle.paths.specs.AnyOrder.{inTurn, onePicked, picked, anyOrder, ei
 use Rattle.paths.proofs.Rules.{lift, rule-skip, rule-seq, rule-alt}
 use Rattle.paths.proofs.Listed.{each-imply}
 use Rattle.paths.proofs.Within.{Within, within-refl, within-seq, within-left, within-right}
-
--- However commands are put together
-
--- what is so of commands is so of them one after the other and as alternatives
-pub record Composes (P : Command → Type 0) : Type 0 where
-  pub none : P skip
-  pub both : {c d : Command} → P c → P d → P (seq c d)
-  pub one-of : {c d : Command} → P c → P d → P (alt c d)
-
-module _ (P : Command → Type 0) (of : Composes P) where
-  in-turn-of : (cs : List Command) → Each P cs → P (inTurn cs)
-  in-turn-of [] h = of .none
-  in-turn-of (c ∷ cs) h = of .both (h .0) (in-turn-of cs (h .1))
-
-  one-picked-of : (goOn : List Command → Command) → ((ds : List Command) → Each P ds → P (goOn ds)) → (c : Command) (cs : List Command) → P c → Each P cs → P (onePicked goOn c cs)
-  one-picked-of goOn f c [] h hs = of .both h (f [] tt)
-  one-picked-of goOn f c (d ∷ ds) h hs = of .one-of (of .both h (f (d ∷ ds) hs)) (one-picked-of (λ others. goOn (c ∷ others)) (λ es ks. f (c ∷ es) (h, ks)) d ds (hs .0) (hs .1))
-
-  picked-of : (n : ℕ) (cs : List Command) → Each P cs → P (picked n cs)
-  picked-of zero cs h = in-turn-of cs h
-  picked-of (suc n) [] h = of .none
-  picked-of (suc n) (c ∷ cs) h = one-picked-of (λ others. picked n others) (picked-of n) c cs (h .0) (h .1)
-
-  pub any-order-of : (cs : List Command) → Each P cs → P (anyOrder cs)
-  unfolding anyOrder
-  any-order-of cs h = picked-of _ cs h
 
 -- Permutations
 
@@ -118,7 +92,7 @@ some-order (suc n) (c ∷ cs) t o r = chosen (some-order n) (picked-run (λ othe
 
 pub only-orders : (cs : List Command) (t : List PathEvent) (o : Ending) → Runs (anyOrder cs) t o → InSomeOrder cs t o
 unfolding anyOrder
-only-orders cs t o r = some-order _ cs t o r
+only-orders cs t o r = some-order (length cs) cs t o r
 
 -- the runs of a command are those of these commands, each once and whole, in whatever order
 pub record InAnyOrder (cs : List Command) (c : Command) : Type 0 where
@@ -127,6 +101,32 @@ pub record InAnyOrder (cs : List Command) (c : Command) : Type 0 where
 
 pub in-any-order : (cs : List Command) → InAnyOrder cs (anyOrder cs)
 in-any-order cs = record { each = λ ds p. every-order p; only = only-orders cs }
+
+-- However commands are put together
+
+-- what is so of commands is so of them one after the other and as alternatives
+pub record Composes (P : Command → Type 0) : Type 0 where
+  pub none : P skip
+  pub both : {c d : Command} → P c → P d → P (seq c d)
+  pub one-of : {c d : Command} → P c → P d → P (alt c d)
+
+module _ (P : Command → Type 0) (of : Composes P) where
+  in-turn-of : (cs : List Command) → Each P cs → P (inTurn cs)
+  in-turn-of [] h = of .none
+  in-turn-of (c ∷ cs) h = of .both (h .0) (in-turn-of cs (h .1))
+
+  one-picked-of : (goOn : List Command → Command) → ((ds : List Command) → Each P ds → P (goOn ds)) → (c : Command) (cs : List Command) → P c → Each P cs → P (onePicked goOn c cs)
+  one-picked-of goOn f c [] h hs = of .both h (f [] tt)
+  one-picked-of goOn f c (d ∷ ds) h hs = of .one-of (of .both h (f (d ∷ ds) hs)) (one-picked-of (λ others. goOn (c ∷ others)) (λ es ks. f (c ∷ es) (h, ks)) d ds (hs .0) (hs .1))
+
+  picked-of : (n : ℕ) (cs : List Command) → Each P cs → P (picked n cs)
+  picked-of zero cs h = in-turn-of cs h
+  picked-of (suc n) [] h = of .none
+  picked-of (suc n) (c ∷ cs) h = one-picked-of (λ others. picked n others) (picked-of n) c cs (h .0) (h .1)
+
+  pub any-order-of : (cs : List Command) → Each P cs → P (anyOrder cs)
+  unfolding anyOrder
+  any-order-of cs h = picked-of (length cs) cs h
 
 -- what is asked in free order alone
 pub in-free : {P Q : Type 0} {o : Order} → (P → Q) → InFreeOrder P o → InFreeOrder Q o
