@@ -1,5 +1,5 @@
 -- Which evaluations must exist in free order. A theorem about all runs is true of too few runs as well, so each form whose order is left
--- open (docs/DECISIONS.md, 115) has small rows here with the complete list of their runs, in whatever order, each run once.
+-- open has small rows here with the complete list of their runs, in whatever order, each run once. Quoted is docs/DECISIONS.md, 115.
 -- `oracle/runs` lists them a second time.
 use mathlib.Core.Path.{_≡_, refl}
 use mathlib.Core.Bool.{true}
@@ -20,8 +20,8 @@ use Rattle.paths.specs.Evaluation.{noEvaluation, evaluationAt, evaluatio
 use Rattle.paths.proofs.Listed.{Run, IsRun, followed, eachFollowed, listed, listed-run, loopless, Settled, Among, all-listed, sameEvents, sameRun, isAmong, allAmong, sameRuns, same-each, same-among, each-same}
 use Rattle.paths.proofs.Strength.{Row, row, x, y, w, lident, callRow, X, Y, W, opaque, absent, not!, minus, and!, or!, plus, ternary, paren, event, evaluatedAs, Case, value, isTrue, isFalse, isUnknown, store}
 
--- "operands of an operator that is neither && nor ||", in any order; "An order is a permutation of whole children. Lists of events are
--- not interleaved"
+-- "operands of an operator that is neither && nor ||", in any order; "An order is a permutation of whole children: their
+-- events are not interleaved"
 abbrev operators : List Case
 operators =
     value (plus W X) ((read ∷ write ∷ []) ∷ (write ∷ read ∷ []) ∷ []) ∷
@@ -46,7 +46,7 @@ operators =
     []) ∷
     []
 
--- "A condition, or an operand whose truth is asked, is evaluated", its operands in any order, "and then is freely true or false" or unknown
+-- a condition is evaluated, its operands in any order, and then is freely true, false or unknown
 abbrev truths : List Case
 truths =
     isTrue (plus W X) ((read ∷ write ∷ choice 1 ∷ []) ∷ (write ∷ read ∷ choice 1 ∷ []) ∷ []) ∷
@@ -100,7 +100,7 @@ abbrev unorderedKinds : List String
 unorderedKinds =
     "bitsel" ∷ "partsel" ∷ "indexed" ∷ "mtm" ∷ "concat" ∷ "syscall" ∷ "pattern" ∷ "replicate" ∷ "method" ∷ "cast" ∷ "namedarg" ∷ "new" ∷ []
 
--- "arguments", in any order; "A call's own path (the read, where it begins with the local) is one of its children": sides 0, 2 and 3
+-- "arguments", in any order; "A call's own path is one of its children": sides 0, 2 and 3
 abbrev calls : ℕ → List Case
 calls s =
     value (callRow s (w ∷ []) (W ∷ X ∷ [])) ((read ∷ write ∷ []) ∷ (write ∷ read ∷ []) ∷ []) ∷
@@ -205,7 +205,7 @@ conditionals =
     []) ∷
     []
 
--- "Sequenced as before: && and ||"
+-- "In sequence as before: && and ||"
 abbrev sequenced : List Case
 sequenced =
     isTrue (and! W X) ((write ∷ choice 1 ∷ read ∷ choice 1 ∷ []) ∷ []) ∷

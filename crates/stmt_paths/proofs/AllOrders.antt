@@ -1,6 +1,6 @@
--- Which paths must exist in free order: each form whose order is left open (docs/DECISIONS.md, 115), and those that stay in sequence, have
--- small rows here with the complete list of their runs, up to a number of rounds, in whatever order, each run once. `oracle/runs`
--- lists them a second time.
+-- Which paths must exist in free order: each form whose order is left open, and those that stay in sequence, have small rows here with the
+-- complete list of their runs, up to a number of rounds, in whatever order, each run once. Quoted is docs/DECISIONS.md, 115.
+-- `oracle/runs` lists them a second time.
 use mathlib.Core.Path.{_≡_, refl}
 use mathlib.Core.Bool.{true}
 use mathlib.Core.List.{List, [], _∷_, _++_, map}
@@ -17,9 +17,13 @@ use Rattle.paths.specs.Semantics.{free-order, under}
 use Rattle.paths.specs.AnyOrder.{anyOrder}
 use Rattle.paths.specs.Evaluation.{evaluationAt}
 use Rattle.paths.proofs.Listed.{Run, IsRun, followed, eachFollowed, rounds, listed, listed-run, each-imply, loopless, Settled, Among, all-listed, sameEvents, sameRun, isAmong, allAmong, sameRuns, same-each, same-among, each-same}
-use Rattle.paths.proofs.Strength.{row, x, y, w, X, Y, W, lit, absent, not!, plus, event}
+use Rattle.paths.proofs.Strength.{Row, row, x, y, w, X, Y, W, lit, absent, not!, plus, event}
 use Rattle.stmt_paths.specs.Execution.{heldAt, executionAt, executed, IsPath}
 use Rattle.stmt_paths.proofs.Strength.{j, b, marks, timed, assign, timedLater, assignLater, delay, on, intra, toX, toY, bitOf, writes, reads, block, decl, ifElse, returns, caseOf, arm, default, for, while, repeat, forever, disable, task, delayed, awaits, wait, null, Case, fall, straight, rounds-to}
+
+-- a system task with one argument, whose order is fixed where an assignment has 24
+abbrev does : Row → Row
+does e = row "systask" 0 (e ∷ [])
 
 -- "right side, delay, event and target selects of a blocking assignment in any order, all before its write": where one of the four reads and
 -- the others write
@@ -151,7 +155,7 @@ assignments =
     straight (assign (row "lconcat" 0 (bitOf toY W ∷ bitOf toY X ∷ [])) lit) ((read ∷ write ∷ []) ∷ (write ∷ read ∷ []) ∷ []) ∷
     []
 
--- "a nonblocking: its right side, and its delay, event and selects each as one whole child that is evaluated or not, in any order"; it never
+-- "of a nonblocking its right side, and its delay, event and selects each as one whole child that is evaluated or not, in any order"; it never
 -- writes
 abbrev nonblockings : List Case
 nonblockings =
@@ -179,7 +183,7 @@ nonblockings =
     []) ∷
     []
 
--- "a systask", its arguments in any order; a task evaluates none, and an unmodelled form nothing that it holds
+-- "arguments of a system task", in any order; a task evaluates none, and an unmodelled form nothing that it holds
 abbrev arguments : List Case
 arguments =
     straight (row "systask" 0 (plus W X ∷ [])) ((read ∷ write ∷ []) ∷ (write ∷ read ∷ []) ∷ []) ∷
@@ -216,8 +220,8 @@ arguments =
     straight (row "fork" 0 (reads ∷ writes ∷ [])) ((outside ∷ []) ∷ []) ∷
     []
 
--- "the labels of the chosen arm up to any one of them, all labels of the arms before it, all labels for a default or no arm"; "the
--- scrutinee before labels, arms' labels in row order"
+-- "the labels of the chosen arm up to any one of them, after all labels of the arms before it; all labels for a default or no arm"; "the
+-- scrutinee before labels, labels in row order"
 abbrev arms : List Case
 arms =
     straight (caseOf Y (arm (lit ∷ W ∷ []) reads ∷ [])) ((choice 0 ∷ read ∷ []) ∷ (choice 0 ∷ write ∷ read ∷ []) ∷ (choice 1 ∷ write ∷ []) ∷ []) ∷
@@ -270,10 +274,10 @@ controls =
     []) ∷
     []
 
--- "Sequenced as before: ... a condition before its arms, ... initialisers, statements, rounds"
+-- "In sequence as before: ... a condition before its arms, ... initialisers, statements, rounds"
 abbrev sequenced : List Case
 sequenced =
-    straight (ifElse (plus W X) writes reads)
+    straight (ifElse (plus W X) (does W) (does X))
     ((read ∷ write ∷ choice 0 ∷ read ∷ []) ∷
     (read ∷ write ∷ choice 1 ∷ write ∷ []) ∷
     (read ∷ write ∷ choice 2 ∷ read ∷ []) ∷
@@ -281,18 +285,18 @@ sequenced =
     (write ∷ read ∷ choice 1 ∷ write ∷ []) ∷
     (write ∷ read ∷ choice 2 ∷ read ∷ []) ∷
     []) ∷
-    straight (ifElse W reads (assign toY (plus W X)))
+    straight (ifElse W (does X) (does (plus W X)))
     ((write ∷ choice 0 ∷ read ∷ write ∷ []) ∷
     (write ∷ choice 0 ∷ write ∷ read ∷ []) ∷
     (write ∷ choice 1 ∷ read ∷ []) ∷
     (write ∷ choice 2 ∷ read ∷ write ∷ []) ∷
     (write ∷ choice 2 ∷ write ∷ read ∷ []) ∷
     []) ∷
-    rounds-to 0 (block (returns (plus W X) ∷ writes ∷ [])) ((read ∷ write ∷ [], stops) ∷ (write ∷ read ∷ [], stops) ∷ []) ∷
-    straight (block (decl b X ∷ decl y W ∷ reads ∷ writes ∷ [])) ((read ∷ write ∷ read ∷ write ∷ []) ∷ []) ∷
-    straight (block (decl b (plus W X) ∷ reads ∷ [])) ((read ∷ write ∷ read ∷ []) ∷ (write ∷ read ∷ read ∷ []) ∷ []) ∷
-    straight (block (row "systask" 0 (W ∷ X ∷ []) ∷ writes ∷ reads ∷ [])) ((read ∷ write ∷ write ∷ read ∷ []) ∷ (write ∷ read ∷ write ∷ read ∷ []) ∷ []) ∷
-    rounds-to 1 (for 0 writes X (assign toY (plus W X)) reads)
+    rounds-to 0 (block (returns (plus W X) ∷ does W ∷ [])) ((read ∷ write ∷ [], stops) ∷ (write ∷ read ∷ [], stops) ∷ []) ∷
+    straight (block (decl b X ∷ decl y W ∷ does X ∷ does W ∷ [])) ((read ∷ write ∷ read ∷ write ∷ []) ∷ []) ∷
+    straight (block (decl b (plus W X) ∷ does X ∷ [])) ((read ∷ write ∷ read ∷ []) ∷ (write ∷ read ∷ read ∷ []) ∷ []) ∷
+    straight (block (row "systask" 0 (W ∷ X ∷ []) ∷ does W ∷ does X ∷ [])) ((read ∷ write ∷ write ∷ read ∷ []) ∷ (write ∷ read ∷ write ∷ read ∷ []) ∷ []) ∷
+    rounds-to 1 (for 0 (does W) X (does (plus W X)) (does X))
     (fall
     ((write ∷ read ∷ choice 0 ∷ []) ∷
     (write ∷ read ∷ choice 1 ∷ read ∷ read ∷ write ∷ read ∷ choice 0 ∷ []) ∷
@@ -301,14 +305,14 @@ sequenced =
     (write ∷ read ∷ choice 1 ∷ read ∷ write ∷ read ∷ read ∷ choice 2 ∷ []) ∷
     (write ∷ read ∷ choice 2 ∷ []) ∷
     [])) ∷
-    rounds-to 1 (for 1 reads Y reads writes)
+    rounds-to 1 (for 1 (does X) Y (does X) (does W))
     (fall
     ((read ∷ choice 1 ∷ write ∷ read ∷ choice 0 ∷ []) ∷
     (read ∷ choice 1 ∷ write ∷ read ∷ choice 1 ∷ write ∷ read ∷ choice 0 ∷ []) ∷
     (read ∷ choice 1 ∷ write ∷ read ∷ choice 1 ∷ write ∷ read ∷ choice 2 ∷ []) ∷
     (read ∷ choice 1 ∷ write ∷ read ∷ choice 2 ∷ []) ∷
     [])) ∷
-    rounds-to 1 (while 0 (plus W X) reads)
+    rounds-to 1 (while 0 (plus W X) (does X))
     (fall
     ((read ∷ write ∷ choice 0 ∷ []) ∷
     (read ∷ write ∷ choice 1 ∷ read ∷ read ∷ write ∷ choice 0 ∷ []) ∷
@@ -323,14 +327,14 @@ sequenced =
     (write ∷ read ∷ choice 1 ∷ read ∷ write ∷ read ∷ choice 2 ∷ []) ∷
     (write ∷ read ∷ choice 2 ∷ []) ∷
     [])) ∷
-    rounds-to 1 (while 1 X writes)
+    rounds-to 1 (while 1 X (does W))
     (fall
     ((read ∷ choice 1 ∷ write ∷ read ∷ choice 0 ∷ []) ∷
     (read ∷ choice 1 ∷ write ∷ read ∷ choice 1 ∷ write ∷ read ∷ choice 0 ∷ []) ∷
     (read ∷ choice 1 ∷ write ∷ read ∷ choice 1 ∷ write ∷ read ∷ choice 2 ∷ []) ∷
     (read ∷ choice 1 ∷ write ∷ read ∷ choice 2 ∷ []) ∷
     [])) ∷
-    rounds-to 1 (repeat 0 (plus W X) reads)
+    rounds-to 1 (repeat 0 (plus W X) (does X))
     (fall
     ((read ∷ write ∷ choice 0 ∷ []) ∷
     (read ∷ write ∷ choice 1 ∷ read ∷ choice 0 ∷ []) ∷
@@ -338,7 +342,7 @@ sequenced =
     (write ∷ read ∷ choice 1 ∷ read ∷ choice 0 ∷ []) ∷
     [])) ∷
     rounds-to 1 (forever 0 (row "systask" 0 (W ∷ X ∷ []))) (([], stops) ∷ (choice 1 ∷ read ∷ write ∷ [], stops) ∷ (choice 1 ∷ write ∷ read ∷ [], stops) ∷ []) ∷
-    rounds-to 1 (while 0 Y (block (assign toY (plus W X) ∷ disable (j ∷ []) ∷ writes ∷ [])))
+    rounds-to 1 (while 0 Y (block (does (plus W X) ∷ disable (j ∷ []) ∷ does W ∷ [])))
     (fall
     ((choice 0 ∷ []) ∷
     (choice 1 ∷ read ∷ write ∷ choice 0 ∷ []) ∷
