@@ -215,10 +215,7 @@ endingNumber leaves = 2
 endingNumber again = 3
 
 abbrev endingOf : ℕ → Ending
-endingOf zero = falls
-endingOf (suc zero) = stops
-endingOf (suc (suc zero)) = leaves
-endingOf (suc (suc (suc n))) = again
+endingOf n = nth again n (falls ∷ stops ∷ leaves ∷ [])
 
 ending-back : (o : Ending) → endingOf (endingNumber o) ≡ o
 ending-back falls = refl

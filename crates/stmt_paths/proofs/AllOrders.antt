@@ -261,6 +261,7 @@ arms =
 -- "expressions of a delay, an event list", in any order, and then the body
 abbrev controls : List Case
 controls =
+    straight (delayed (delay (plus W X ∷ [])) null) ((read ∷ write ∷ []) ∷ (write ∷ read ∷ []) ∷ []) ∷
     straight (delayed (delay (X ∷ W ∷ [])) reads) ((read ∷ write ∷ read ∷ []) ∷ (write ∷ read ∷ read ∷ []) ∷ []) ∷
     straight (awaits (on (event W absent ∷ event X absent ∷ [])) writes) ((read ∷ write ∷ write ∷ []) ∷ (write ∷ read ∷ write ∷ []) ∷ []) ∷
     straight (awaits (on (event X W ∷ [])) reads) ((read ∷ write ∷ read ∷ []) ∷ (write ∷ read ∷ read ∷ []) ∷ []) ∷
