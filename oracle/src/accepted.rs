@@ -5,7 +5,7 @@ use crate::facts::write::run_text;
 use crate::generate::Generator;
 use crate::judge;
 use crate::parallel;
-use crate::path::{marks, Event, Run, Table};
+use crate::path::{marks, Event, Order, Run, Table};
 use crate::premises::first_failing;
 use crate::random::Random;
 use crate::reading;
@@ -13,9 +13,13 @@ use crate::runs;
 use crate::sheet::Sheet;
 
 /// A listing of so many runs of row 0 as a statement, with at most so many rounds of each loop.
-pub type Sampled = fn(Table, usize, usize, Random) -> Vec<Run>;
+pub type Sampled = fn(Table, Order, usize, usize, Random) -> Vec<Run>;
 
-/// How many runs of a sheet are looked at, and how many rounds of a loop.
+/// The orders that runs are looked at in, each with its name, and a sample in each.
+const ORDERS: [(Order, &str); 2] = [(Order::Row, "row order"), (Order::Free, "free order")];
+type Samples = [Vec<Run>; 2];
+
+/// How many runs of a sheet are looked at in each order, and how many rounds of a loop.
 const RUNS: usize = 12;
 const ROUNDS: usize = 3;
 
@@ -54,10 +58,10 @@ fn is_covered(sheet: &Sheet) -> bool {
     first_failing(Table { rows: &sheet.rows, local: sheet.local, marks: &marks(&sheet.names) }).is_none()
 }
 
-/// A sample of the runs of a sheet, always the same of a number and a seed.
-fn sample(sampled: Sampled, sheet: &Sheet, number: usize, seed: u64) -> Vec<Run> {
+/// A sample of the runs of a sheet in an order, always the same of a number and a seed.
+fn sample(sampled: Sampled, sheet: &Sheet, order: Order, number: usize, seed: u64) -> Vec<Run> {
     let table = Table { rows: &sheet.rows, local: sheet.local, marks: &marks(&sheet.names) };
-    sampled(table, ROUNDS, RUNS, Random::new(seed, number as u64))
+    sampled(table, order, ROUNDS, RUNS, Random::new(seed, number as u64))
 }
 
 fn is_read(event: &Event) -> bool {
@@ -70,8 +74,8 @@ fn is_early(run: &Run) -> bool {
 }
 
 /// Whether a listing has such a run in its sample of a sheet.
-pub fn reads_early(sampled: Sampled, sheet: &Sheet, number: usize, seed: u64) -> bool {
-    sample(sampled, sheet, number, seed).iter().any(is_early)
+pub fn reads_early(sampled: Sampled, sheet: &Sheet, order: Order, number: usize, seed: u64) -> bool {
+    sample(sampled, sheet, order, number, seed).iter().any(is_early)
 }
 
 /// Looks at the sheets of a seed, in their order, until the acceptance rule speaks of so many of them.
@@ -112,22 +116,27 @@ struct Tally {
     asked: usize,
     accepted: usize,
     covered: usize,
-    runs: usize,
-    reads: usize,
+    /// In each of the orders.
+    runs: [usize; 2],
+    reads: [usize; 2],
     failed: usize,
 }
 
 impl Tally {
-    fn add(&mut self, number: usize, found: &Found, sample: &[Run]) {
+    fn add(&mut self, number: usize, found: &Found, samples: &Samples) {
         self.asked += usize::from(!matches!(found, Found::Unasked));
         self.accepted += usize::from(matches!(found, Found::Uncovered | Found::Covered(_)));
         self.covered += usize::from(matches!(found, Found::Covered(_)));
-        self.runs += sample.len();
-        self.reads += sample.iter().flat_map(|run| &run.events).filter(|event| is_read(event)).count();
-        if let Some(run) = sample.iter().find(|run| is_early(run)) {
+        for (i, sample) in samples.iter().enumerate() {
+            self.runs[i] += sample.len();
+            self.reads[i] += sample.iter().flat_map(|run| &run.events).filter(|event| is_read(event)).count();
+        }
+        let early =
+            ORDERS.iter().zip(samples).find_map(|((_, name), sample)| Some((name, sample.iter().find(|run| is_early(run))?)));
+        if let Some((name, run)) = early {
             self.failed += 1;
             if self.failed <= PRINTED {
-                println!("sheet {number} reads too early: {}", run_text(run));
+                println!("sheet {number} reads too early in {name}: {}", run_text(run));
             }
         }
     }
@@ -136,19 +145,21 @@ impl Tally {
         println!("{:>9}  good sheets with start 0", self.asked);
         println!("{:>9}  accepted by the Rust", self.accepted);
         println!("{:>9}  of these covered by the premises", self.covered);
-        println!("{:>9}  runs of these, with {} reads", self.runs, self.reads);
+        for (i, (_, name)) in ORDERS.iter().enumerate() {
+            println!("{:>9}  runs of these in {name}, with {} reads", self.runs[i], self.reads[i]);
+        }
         println!("{} passed, {} failed", self.covered - self.failed, self.failed);
     }
 }
 
-/// So many sheets that the acceptance rule speaks of, each with a sample of its runs over three truths; the last line says how many passed.
+/// So many sheets that the acceptance rule speaks of, each with samples of its runs over three truths; the last line says how many passed.
 pub fn run(count: usize, seed: u64) -> bool {
     let mut tally = Tally::default();
     let at = |number, found: &Found| match found {
-        Found::Covered(sheet) => sample(runs::sampled, sheet, number, seed),
-        _ => Vec::new(),
+        Found::Covered(sheet) => ORDERS.map(|(order, _)| sample(runs::sampled, sheet, order, number, seed)),
+        _ => Samples::default(),
     };
-    look(count, seed, at, |number, found, sample| tally.add(number, &found, &sample));
+    look(count, seed, at, |number, found, samples| tally.add(number, &found, &samples));
     tally.print();
     tally.failed == 0
 }

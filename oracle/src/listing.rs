@@ -2,14 +2,14 @@
 
 use crate::facts::write::run_text;
 use crate::facts::{self, Case, Facts, FILES};
-use crate::path::{Ending, Run, Table, Truths, Way};
+use crate::path::{Ending, Order, Run, Table, Truths, Way};
 use crate::premises::first_failing;
 use crate::runs;
 use std::collections::BTreeMap;
 use std::io;
 
 /// A listing of all runs of row 0.
-pub type Listed = fn(Table, Way, Truths) -> Vec<Run>;
+pub type Listed = fn(Table, Way, Truths, Order) -> Vec<Run>;
 
 /// "May stop anywhere": the first events of each run, where a case asks for no more of them.
 fn shortened(extent: Option<usize>, mut runs: Vec<Run>) -> Vec<Run> {
@@ -22,13 +22,19 @@ fn shortened(extent: Option<usize>, mut runs: Vec<Run>) -> Vec<Run> {
     runs
 }
 
-/// What a listing has of a case.
-pub fn list_by(listed: Listed, facts: &Facts, case: &Case, truths: Truths) -> Vec<Run> {
-    shortened(case.extent, listed(facts.table(&case.rows), case.way, truths))
+/// What a listing has of a case: in free order sorted, and each run once.
+pub fn list_by(listed: Listed, facts: &Facts, case: &Case, truths: Truths, order: Order) -> Vec<Run> {
+    let mut runs = shortened(case.extent, listed(facts.table(&case.rows), case.way, truths, order));
+    if order == Order::Free {
+        runs.sort();
+        runs.dedup();
+    }
+    runs
 }
 
+/// The second reading's list of a case in its file's order.
 fn right_list(facts: &Facts, case: &Case, truths: Truths) -> Vec<Run> {
-    list_by(runs::listed, facts, case, truths)
+    list_by(runs::listed, facts, case, truths, case.order)
 }
 
 /// How many passed and how many failed.
@@ -61,18 +67,18 @@ fn print_list(whose: &str, runs: &[Run]) {
 
 /// A case whose lists differ, with both.
 fn print_differing(facts: &Facts, case: &Case, listed: &[Run]) {
-    println!("{}: {}", FILES[case.from.file], facts.title(case));
+    println!("{}: {}", FILES[case.from.file].path, facts.title(case));
     print_list("the file", &case.expected);
     print_list("the second reading", listed);
 }
 
 fn print_sizes(facts: &Facts) {
-    for (file, path) in FILES.iter().enumerate() {
-        let cases: Vec<&Case> = facts.cases.iter().filter(|case| case.from.file == file).collect();
+    for (number, file) in FILES[..facts.texts.len()].iter().enumerate() {
+        let cases: Vec<&Case> = facts.cases.iter().filter(|case| case.from.file == number).collect();
         let runs: usize = cases.iter().map(|case| case.expected.len()).sum();
-        println!("{path}: {} rows with {runs} runs", cases.len());
+        println!("{}: {} rows with {runs} runs", file.path, cases.len());
     }
-    println!("{}: {} sheets with the first row at which a premise fails", FILES[1], facts.sheets.len());
+    println!("{}: {} sheets with the first row at which a premise fails", FILES[1].path, facts.sheets.len());
 }
 
 /// That each list is the second reading's over these truths.
@@ -92,8 +98,8 @@ fn check_among(tally: &mut Tally, title: &str, runs: &[Run], among: &[Run]) {
     });
 }
 
-/// Each list against the second reading's over three truths, each run over two among those over three, and the premises; the last
-/// line says how many passed.
+/// Each list against the second reading's over three truths, each run over two among those over three, each run in row order among those
+/// in free order, and the premises; the last line says how many passed.
 pub fn check() -> io::Result<bool> {
     let facts = Facts::read(facts::present()?);
     print_sizes(&facts);
@@ -102,6 +108,8 @@ pub fn check() -> io::Result<bool> {
     for case in &facts.cases {
         let [two, three] = [Truths::Two, Truths::Three].map(|truths| right_list(&facts, case, truths));
         check_among(&mut tally, facts.title(case), &two, &three);
+        let [row, free] = [Order::Row, Order::Free].map(|order| list_by(runs::listed, &facts, case, Truths::Three, order));
+        check_among(&mut tally, facts.title(case), &row, &free);
     }
     for (number, sheet) in facts.sheets.iter().enumerate() {
         let fails = first_failing(facts.table(&sheet.rows));
@@ -110,8 +118,8 @@ pub fn check() -> io::Result<bool> {
     Ok(tally.print())
 }
 
-/// The files of a revision: each list is the second reading's over two truths, and each of its rows stands in the present files, with
-/// every run of its list in the present list.
+/// The files of row order of a revision: each list is the second reading's over two truths, and each of its rows stands in the present
+/// files of row order, with every run of its list in the present list.
 pub fn before(revision: &str) -> io::Result<bool> {
     let then = Facts::read(facts::as_of(revision)?);
     let now = Facts::read(facts::present()?);
@@ -119,7 +127,9 @@ pub fn before(revision: &str) -> io::Result<bool> {
     let mut tally = Tally::default();
     check_lists(&mut tally, &then, Truths::Two);
     for case in &then.cases {
-        let same = |other: &&Case| other.way == case.way && other.extent == case.extent && other.rows == case.rows;
+        let same = |other: &&Case| {
+            (other.way, other.order, other.extent, &other.rows) == (case.way, case.order, case.extent, &case.rows)
+        };
         match now.cases.iter().find(same) {
             Some(other) => check_among(&mut tally, then.title(case), &case.expected, &other.expected),
             None => tally.add(false, || println!("{}\n  missing with all its runs", then.title(case))),
@@ -142,9 +152,9 @@ pub fn write(all: bool) -> io::Result<bool> {
         places.iter().filter(|(_, c)| (all || differs(c)) && agree(c)).map(|(from, c)| (*from, &c[0].1)).collect();
     println!("{} lists written anew", lists.len());
     let texts = facts.with_lists(lists);
-    for ((path, text), before) in FILES.iter().zip(&texts).zip(&facts.texts) {
+    for ((file, text), before) in FILES.iter().zip(&texts).zip(&facts.texts) {
         if text != before {
-            std::fs::write(format!("../{path}"), text)?;
+            std::fs::write(format!("../{}", file.path), text)?;
         }
     }
     let mut tally = Tally::default();

@@ -4,7 +4,7 @@ use crate::sheet::Row;
 
 /// "The list of the reads and writes named here, all writes whole"; a fork or unmodelled form, which "counts as a read", is told apart
 /// from one. Choices are those that Paper 6 numbers.
-#[derive(Clone, Copy, PartialEq, Eq, Hash, Debug)]
+#[derive(Clone, Copy, PartialEq, Eq, PartialOrd, Ord, Hash, Debug)]
 pub enum Event {
     Read,
     Write,
@@ -14,7 +14,7 @@ pub enum Event {
 
 /// How a run ends: before what stands after it, at a return or where nothing goes on, or by a loop jump that no loop has caught yet, out of
 /// the loop or only out of its round.
-#[derive(Clone, Copy, PartialEq, Eq, Hash, Debug)]
+#[derive(Clone, Copy, PartialEq, Eq, PartialOrd, Ord, Hash, Debug)]
 pub enum Ending {
     Falls,
     Stops,
@@ -22,7 +22,8 @@ pub enum Ending {
     Again,
 }
 
-#[derive(Clone, PartialEq, Eq, Hash, Debug)]
+/// Runs are sorted by their events, then by how they end, each in the order in which it is declared here.
+#[derive(Clone, PartialEq, Eq, PartialOrd, Ord, Hash, Debug)]
 pub struct Run {
     pub events: Vec<Event>,
     pub ending: Ending,
@@ -41,6 +42,15 @@ pub enum Truth {
 pub enum Truths {
     Two,
     Three,
+}
+
+/// The order in which a path evaluates children of which none waits for another.
+#[derive(Clone, Copy, PartialEq, Eq, Hash, Debug)]
+pub enum Order {
+    /// "Everything else evaluates its children in row order."
+    Row,
+    /// Free order, as docs/DECISIONS.md, 115 has it: "An order is a permutation of whole children."
+    Free,
 }
 
 /// What row 0 is listed as: an expression whose truth is not asked, the target of an assignment, an expression whose truth is asked and

@@ -99,15 +99,21 @@ const MADE: [&str; 21] = [
     "nil",
 ];
 
-/// Files, each of which may use the names of those before it.
+/// Files, each of which may use the names of others.
 pub struct Files {
     pub sources: Vec<Source>,
+    uses: Vec<&'static [usize]>,
     known: RefCell<HashMap<(usize, String), Value>>,
 }
 
 impl Files {
-    pub fn new(texts: Vec<String>) -> Files {
-        Files { sources: texts.into_iter().map(Source::new).collect(), known: RefCell::new(HashMap::new()) }
+    pub fn new(texts: Vec<String>, uses: Vec<&'static [usize]>) -> Files {
+        Files { sources: texts.into_iter().map(Source::new).collect(), uses, known: RefCell::new(HashMap::new()) }
+    }
+
+    /// The files that a file's names are looked up in: itself, then those that it uses.
+    pub fn seen_from(&self, file: usize) -> impl Iterator<Item = usize> {
+        [file].into_iter().chain(self.uses[file].iter().copied())
     }
 
     /// What a name of a file comes to.
@@ -131,7 +137,7 @@ impl Files {
         if let Some(known) = known {
             return Value::Function(Rc::new(Function::Known(known)), Vec::new());
         }
-        for at in (0..=file).rev() {
+        for at in self.seen_from(file) {
             if let Some(equations) = self.sources[at].equations(name) {
                 return self.defined(name, equations, at);
             }

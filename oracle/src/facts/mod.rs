@@ -1,23 +1,38 @@
-//! The joint facts of the two files `Strength.antt`: rows, each with the complete list of its runs, and sheets, each with the row at
-//! which a premise first fails.
+//! The joint facts of the files `Strength.antt` and `AllOrders.antt`: rows, each with the complete list of its runs, and sheets, each with
+//! the row at which a premise first fails.
 
 pub mod evaluate;
 pub mod parse;
 pub mod write;
 
-use crate::path::{Ending, Event, Run, Table, Truth, Way};
+use crate::path::{Ending, Event, Order, Run, Table, Truth, Way};
 use crate::reading::kinds;
 use crate::sheet::Row;
 use evaluate::{Files, Origin, Tree, Value};
 use std::io;
 use std::process::Command;
 
-/// The files, the second of which uses names of the first.
-pub const FILES: [&str; 2] = ["crates/paths/proofs/Strength.antt", "crates/stmt_paths/proofs/Strength.antt"];
+/// A file by its path, the order that it lists runs in, and the files whose names it uses, those that are looked at first before the others.
+pub struct File {
+    pub path: &'static str,
+    pub order: Order,
+    uses: &'static [usize],
+}
 
-/// A row, what it is listed as, whole or its first events alone, and the list that is expected.
+pub const FILES: [File; 4] = [
+    File { path: "crates/paths/proofs/Strength.antt", order: Order::Row, uses: &[] },
+    File { path: "crates/stmt_paths/proofs/Strength.antt", order: Order::Row, uses: &[0] },
+    File { path: "crates/paths/proofs/AllOrders.antt", order: Order::Free, uses: &[0] },
+    File { path: "crates/stmt_paths/proofs/AllOrders.antt", order: Order::Free, uses: &[1, 2, 0] },
+];
+
+/// How many of them are of row order, which revisions before free order have alone.
+const OF_ROW_ORDER: usize = 2;
+
+/// A row, what it is listed as and in which order, whole or its first events alone, and the list that is expected.
 pub struct Case {
     pub way: Way,
+    pub order: Order,
     pub rows: Vec<Row>,
     pub extent: Option<usize>,
     pub expected: Vec<Run>,
@@ -41,24 +56,24 @@ pub struct Facts {
 
 /// The texts of the files as they stand.
 pub fn present() -> io::Result<Vec<String>> {
-    FILES.iter().map(|path| std::fs::read_to_string(format!("../{path}"))).collect()
+    FILES.iter().map(|file| std::fs::read_to_string(format!("../{}", file.path))).collect()
 }
 
-/// Their texts as of a revision.
+/// The texts of those of row order as of a revision.
 pub fn as_of(revision: &str) -> io::Result<Vec<String>> {
-    let text = |path: &&str| {
-        let output = Command::new("git").args(["-C", "..", "show", &format!("{revision}:{path}")]).output()?;
+    let text = |file: &File| {
+        let output = Command::new("git").args(["-C", "..", "show", &format!("{revision}:{}", file.path)]).output()?;
         if !output.status.success() {
             return Err(io::Error::other(String::from_utf8_lossy(&output.stderr).into_owned()));
         }
         String::from_utf8(output.stdout).map_err(io::Error::other)
     };
-    FILES.iter().map(text).collect()
+    FILES[..OF_ROW_ORDER].iter().map(text).collect()
 }
 
 impl Facts {
     pub fn read(texts: Vec<String>) -> Facts {
-        let files = Files::new(texts.clone());
+        let files = Files::new(texts.clone(), FILES.map(|file| file.uses).to_vec());
         let cases: Vec<Case> =
             (0..files.sources.len()).flat_map(|file| files.value(file, "cases").list()).map(|case| case_of(&case)).collect();
         let sheets: Vec<Sheet> = files.value(1, "sheets").list().iter().map(sheet_of).collect();
@@ -81,7 +96,7 @@ impl Facts {
 
     /// Whether the name at the head of a case takes runs, and not only their events.
     fn takes_runs(&self, from: &Origin) -> bool {
-        let of = self.files.sources[..=from.file].iter().rev().find_map(|source| source.type_of(&from.head)).unwrap_or("");
+        let of = self.files.seen_from(from.file).find_map(|file| self.files.sources[file].type_of(&from.head)).unwrap_or("");
         of.rsplit(" → ").nth(1) == Some("List Run")
     }
 }
@@ -114,7 +129,7 @@ fn case_of(value: &Value) -> Case {
     };
     let expected = value.field("expected").list().iter().map(run_of).collect();
     let from = record.from.clone().expect("a case is written as an application");
-    Case { way, rows: rows_of(&value.field("what")), extent, expected, from }
+    Case { way, order: FILES[from.file].order, rows: rows_of(&value.field("what")), extent, expected, from }
 }
 
 fn way_of(value: &Value) -> Way {

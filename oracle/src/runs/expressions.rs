@@ -1,8 +1,9 @@
 //! The runs of expressions and targets.
 
-use super::lists::one;
+use super::lists::{nothing, one};
 use super::Lister;
 use crate::path::{Event, Run, Truth, Truths};
+use std::iter;
 
 /// The runs of an expression whose truth is asked, by how it comes out.
 pub struct Outcomes {
@@ -26,24 +27,26 @@ impl Lister<'_> {
         }
     }
 
-    /// "Everything else evaluates its children in row order."
+    /// "Everything else evaluates its children in row order"; in free order "in any order: operands of an operator that is
+    /// neither && nor ||, parts of a concatenation, arguments, selects, expressions of a delay, an event list, an event with its iff,
+    /// arguments of a system task".
     pub(super) fn values(&self, rows: &[usize]) -> Vec<Run> {
-        self.lists.in_turn(rows.iter().map(|row| self.value(*row)))
+        self.ordered(rows.iter().map(|row| self.value(*row)))
     }
 
-    /// "A call with side 1 writes the whole local"; "a call path beginning with the local reads unless side is 1."
+    /// "A call with side 1 writes the whole local"; "a call path beginning with the local reads unless side is 1." "A call's own path is
+    /// one of its children."
     fn call(&self, i: usize) -> Vec<Run> {
         if self.view.side(i) == 1 {
             return one(Event::Write);
         }
-        let arguments = self.values(&self.view.children(i)[1..]);
-        if self.view.begins(i) {
-            return self.lists.then(&one(Event::Read), &arguments);
-        }
-        arguments
+        let path = if self.view.begins(i) { one(Event::Read) } else { nothing() };
+        let arguments = self.view.children(i).split_off(1);
+        self.ordered(iter::once(path).chain(arguments.into_iter().map(|argument| self.value(argument))))
     }
 
-    /// "A conditional expression evaluates its condition and one arm"; with an unknown condition it "evaluates both arms".
+    /// "A conditional expression evaluates its condition and one arm"; with an unknown condition it "evaluates both arms", in free order
+    /// "both arms after an unknown condition" in any order. "A condition before its arms."
     fn conditional(&self, i: usize) -> Vec<Run> {
         let children = self.view.children(i);
         let condition = self.outcomes(children[0]);
@@ -51,7 +54,7 @@ impl Lister<'_> {
         self.lists.either([
             self.lists.then(&condition.is_true, &first),
             self.lists.then(&condition.is_false, &second),
-            self.lists.then(&condition.is_unknown, &self.lists.then(&first, &second)),
+            self.lists.then(&condition.is_unknown, &self.ordered([first.clone(), second.clone()])),
         ])
     }
 
@@ -118,13 +121,22 @@ impl Lister<'_> {
         }
     }
 
-    /// The runs of the target of an assignment: "target selects, then the write if the target is the plain local"; "a select of it, or a
-    /// longer path, is neither read nor written".
+    /// The runs of the target of an assignment: "target selects, then the write".
     pub fn store(&self, i: usize) -> Vec<Run> {
+        self.lists.then(&self.selects(i), &self.written(i))
+    }
+
+    /// The selects of a target.
+    pub(super) fn selects(&self, i: usize) -> Vec<Run> {
+        self.value(i)
+    }
+
+    /// "The write if the target is the plain local"; "a select of it, or a longer path, is neither read nor written".
+    pub(super) fn written(&self, i: usize) -> Vec<Run> {
         if self.view.is_plain_local(i) {
             return one(Event::Write);
         }
-        self.value(i)
+        nothing()
     }
 }
 

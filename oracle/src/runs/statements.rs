@@ -2,7 +2,8 @@
 
 use super::lists::{caught, nothing, one, stop};
 use super::Lister;
-use crate::path::{Ending, Event, Run};
+use crate::path::{Ending, Event, Order, Run};
+use std::iter;
 
 impl Lister<'_> {
     /// The runs of a statement, of a declaration, or of `none` where a statement may be missing.
@@ -10,8 +11,7 @@ impl Lister<'_> {
         let children = self.view.children(i);
         match self.view.word(i) {
             "blocking" => self.assignment(i),
-            // "Nonblocking: right side only."
-            "nonblocking" => self.value(children[3]),
+            "nonblocking" => self.nonblocking(i),
             "if" => self.either_side(i),
             // "Return evaluates its value and ends the path."
             "return" => self.lists.then(&self.value(children[0]), &stop()),
@@ -38,11 +38,26 @@ impl Lister<'_> {
         }
     }
 
-    /// "Assignment: right side, delay, event, target selects, then the write if the target is the plain local."
+    /// "Assignment: right side, delay, event, target selects, then the write if the target is the plain local"; in free order "right side,
+    /// delay, event and target selects of a blocking assignment in any order, all before its write".
     fn assignment(&self, i: usize) -> Vec<Run> {
         let children = self.view.children(i);
         let [delay, event, target, right] = children[..] else { panic!("an assignment has four children") };
-        self.lists.in_turn([self.value(right), self.value(delay), self.value(event), self.store(target)])
+        let parts = [self.value(right), self.value(delay), self.value(event), self.selects(target)];
+        self.lists.then(&self.ordered(parts), &self.written(target))
+    }
+
+    /// "Nonblocking: right side only"; in free order "its right side, and its delay, event and selects each as one whole child that is
+    /// evaluated or not, in any order".
+    fn nonblocking(&self, i: usize) -> Vec<Run> {
+        let children = self.view.children(i);
+        let [delay, event, target, right] = children[..] else { panic!("an assignment has four children") };
+        let right = self.value(right);
+        if self.order == Order::Row {
+            return right;
+        }
+        let others = [self.value(delay), self.value(event), self.selects(target)].map(|part| self.lists.or_not(part));
+        self.ordered(iter::once(right).chain(others))
     }
 
     /// A condition "may be unknown: `if` then takes the else side".
@@ -59,7 +74,8 @@ impl Lister<'_> {
 
     /// "Case: scrutinee, then labels in row order through the chosen arm's (all of them for a default or no arm), then that arm; no arm only
     /// where no default stands": where one stands, the last run only stops. "A case gives, after its scrutinee and before its labels, the
-    /// arm's number from 0, or the count of arms for none."
+    /// arm's number from 0, or the count of arms for none." In free order "the scrutinee before labels" too, and "all labels for a default
+    /// or no arm".
     fn case(&self, i: usize) -> Vec<Run> {
         let children = self.view.children(i);
         let (scrutinee, arms) = (children[0], &children[1..]);
@@ -67,7 +83,7 @@ impl Lister<'_> {
         let all = self.labels(arms);
         let mut entries = Vec::new();
         for (number, arm) in arms.iter().enumerate() {
-            let labels = if is_default(arm) { all.clone() } else { self.labels(&arms[..=number]) };
+            let labels = if is_default(arm) { all.clone() } else { self.labels_through(&arms[..number], *arm) };
             let body = self.statement(self.view.children(*arm)[0]);
             entries.push(self.lists.in_turn([one(Event::Choice(number)), labels, body]));
         }
@@ -79,9 +95,34 @@ impl Lister<'_> {
         self.lists.then(&self.value(scrutinee), &self.lists.either(entries))
     }
 
-    /// The labels of these arms, in row order.
+    /// The labels of these arms, "labels in row order".
     fn labels(&self, arms: &[usize]) -> Vec<Run> {
-        self.lists.in_turn(arms.iter().map(|arm| self.values(&self.view.children(*arm)[1..])))
+        self.lists.in_turn(arms.iter().map(|arm| self.all_of(&self.view.children(*arm)[1..])))
+    }
+
+    /// "All labels of the arms before" the chosen one, and then its own.
+    fn labels_through(&self, before: &[usize], chosen: usize) -> Vec<Run> {
+        let before = self.labels(before);
+        let own = &self.view.children(chosen)[1..];
+        let own = match self.order {
+            Order::Row => self.all_of(own),
+            Order::Free => self.up_to_any(own),
+        };
+        self.lists.then(&before, &own)
+    }
+
+    /// All labels of an arm.
+    fn all_of(&self, labels: &[usize]) -> Vec<Run> {
+        self.lists.in_turn(labels.iter().map(|label| self.value(*label)))
+    }
+
+    /// "The labels of the chosen arm up to any one of them."
+    fn up_to_any(&self, labels: &[usize]) -> Vec<Run> {
+        match labels {
+            [] => nothing(),
+            [last] => self.value(*last),
+            [first, left @ ..] => self.lists.then(&self.value(*first), &self.lists.either([nothing(), self.up_to_any(left)])),
+        }
     }
 
     /// "For: init, then condition, body, step in turn"; "a loop ends" by an unknown condition.
