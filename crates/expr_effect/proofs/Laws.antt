@@ -176,7 +176,7 @@ module _ (o : Order) (l r : Evaluation) (kl : Evaluates full full l) (kr : Evalu
 
 -- each form of a row, from its operands
 
-module _ (o : Order) (n : Bool) (a b c : ExprEffect) (d e f : Evaluation) (p : Sound a d) (q : Sound b e) (r : Sound c f) where
+module _ (n : Bool) (a b c : ExprEffect) (d e f : Evaluation) (p : Sound a d) (q : Sound b e) (r : Sound c f) where
   inner-sound : Sound (guarded (combined Inner n a b c)) d
   inner-sound = row-sound Inner n a b c d (p .calm) (p .effect) (λ want t m i. p .when want t m)
 
@@ -190,15 +190,15 @@ module _ (o : Order) (n : Bool) (a b c : ExprEffect) (d e f : Evaluation) (p : S
       (flip-effect (a .effect) d (p .effect))
       (λ want t m i. p .when (not want) (opposite t) (flip-meets want t m))
 
-  operands-sound : Sound (guarded (combined Operands n a b c)) (free (eitherFirst o (d .value) (e .value)))
-  operands-sound =
+  operands-sound : (o : Order) → Sound (guarded (combined Operands n a b c)) (free (eitherFirst o (d .value) (e .value)))
+  operands-sound o =
       row-sound Operands n a b c (free (eitherFirst o (d .value) (e .value)))
       (evaluates-free (rule-either-first o (p .calm .value) (q .calm .value)))
       (join-effect o (a .effect) (b .effect) d e (p .effect) (q .effect))
       (λ want t m i. tt)
 
-  arms-sound : Sound (guarded (combined Arms n a b c)) (free (conditional o d e f))
-  arms-sound =
+  arms-sound : (o : Order) → Sound (guarded (combined Arms n a b c)) (free (conditional o d e f))
+  arms-sound o =
       row-sound Arms n a b c (free (conditional o d e f))
       (evaluates-free (conditional-triple o (p .calm) (q .calm) (r .calm)))
       (conditional-effect o e f (q .calm) (r .calm) d (a .effect) (b .effect) (c .effect) (p .effect) (q .effect) (r .effect))
@@ -242,15 +242,15 @@ no-sound = record { calm = evaluates-free rule-skip; effect = evaluates-free rul
 
 -- each kind of a row, by its side
 
-module _ (o : Order) (n : Bool) (a b c : ExprEffect) (d e f : Evaluation) (p : Sound a d) (q : Sound b e) (r : Sound c f) where
+module _ (n : Bool) (a b c : ExprEffect) (d e f : Evaluation) (p : Sound a d) (q : Sound b e) (r : Sound c f) where
   unary-sound : (i : Bool) → Sound (guarded (combined (cond i LogNot Operand) n a b c)) (cond i (asked (λ t. d .truth (opposite t))) (free (d .value)))
-  unary-sound true = not-sound o n a b c d e f p q r
-  unary-sound false = operand-sound o n a b c d e f p q r
+  unary-sound true = not-sound n a b c d e f p q r
+  unary-sound false = operand-sound n a b c d e f p q r
 
-  binary-sound : (i j : Bool) → Sound (guarded (combined (cond i LogAnd (cond j LogOr Operands)) n a b c)) (cond i (asked (both d e)) (cond j (asked (either d e)) (free (eitherFirst o (d .value) (e .value)))))
-  binary-sound true j = and-sound o n a b c d e f p q r
-  binary-sound false true = or-sound o n a b c d e f p q r
-  binary-sound false false = operands-sound o n a b c d e f p q r
+  binary-sound : (o : Order) (i j : Bool) → Sound (guarded (combined (cond i LogAnd (cond j LogOr Operands)) n a b c)) (cond i (asked (both d e)) (cond j (asked (either d e)) (free (eitherFirst o (d .value) (e .value)))))
+  binary-sound o true j = and-sound n a b c d e f p q r
+  binary-sound o false true = or-sound n a b c d e f p q r
+  binary-sound o false false = operands-sound n a b c d e f p q r o
 
 call-sound : (n i : Bool) (a b c : ExprEffect) (e : Evaluation)
     → Evaluates full full (cond i (free (emit write)) e)
@@ -268,11 +268,11 @@ module _ (sem : Semantics) (x s : ℕ) (cs : Forest) (n : Bool) {os : List ExprE
       → (n ≡ false → Evaluates none none (evaluationOf sem x k s cs es))
       → Sound (guarded (combined (formOf k s) n (nth noEffect 0 os) (nth noEffect 1 os) (nth noEffect 2 os))) (evaluationOf sem x k s cs es)
   unfolding unaryForm binaryForm callForm
-  sound-kind Unary h v = unary-sound (sem .order) n _ _ _ _ _ _ (child 0) (child 1) (child 2) (eqb s 1)
-  sound-kind Binary h v = binary-sound (sem .order) n _ _ _ _ _ _ (child 0) (child 1) (child 2) (eqb s 1) (eqb s 2)
-  sound-kind Ternary h v = arms-sound (sem .order) n _ _ _ _ _ _ (child 0) (child 1) (child 2)
+  sound-kind Unary h v = unary-sound n _ _ _ _ _ _ (child 0) (child 1) (child 2) (eqb s 1)
+  sound-kind Binary h v = binary-sound n _ _ _ _ _ _ (child 0) (child 1) (child 2) (sem .order) (eqb s 1) (eqb s 2)
+  sound-kind Ternary h v = arms-sound n _ _ _ _ _ _ (child 0) (child 1) (child 2) (sem .order)
   sound-kind Call h v = call-sound n (eqb s 1) _ _ _ _ h v
-  sound-kind Paren h v = inner-sound (sem .order) n _ _ _ _ _ _ (child 0) (child 1) (child 2)
+  sound-kind Paren h v = inner-sound n _ _ _ _ _ _ (child 0) (child 1) (child 2)
   sound-kind Ident h v = vetted-sound n _ h v
   sound-kind Lident h v = vetted-sound n _ h v
   sound-kind Opaque h v = vetted-sound n _ h v

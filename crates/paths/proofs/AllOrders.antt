@@ -18,7 +18,7 @@ use Rattle.paths.specs.Semantics.{free-order, under}
 use Rattle.paths.specs.AnyOrder.{anyOrder}
 use Rattle.paths.specs.Evaluation.{noEvaluation, evaluationAt, evaluations}
 use Rattle.paths.proofs.Listed.{Run, IsRun, followed, eachFollowed, listed, listed-run, loopless, Settled, Among, all-listed, sameEvents, sameRun, isAmong, allAmong, sameRuns, same-each, same-among, each-same}
-use Rattle.paths.proofs.Strength.{Row, row, x, y, w, lident, callRow, X, Y, W, opaque, absent, not!, minus, and!, or!, plus, ternary, paren, event, evaluatedAs, Case, value, isTrue, isFalse, isUnknown, store}
+use Rattle.paths.proofs.Strength.{row, x, y, w, lident, callRow, X, Y, W, opaque, absent, not!, minus, and!, or!, plus, ternary, paren, event, evaluatedAs, Case, value, isTrue, isFalse, isUnknown, store}
 
 -- "operands of an operator that is neither && nor ||", in any order; "An order is a permutation of whole children: their
 -- events are not interleaved"

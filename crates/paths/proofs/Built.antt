@@ -18,7 +18,7 @@ use Rattle.reads.proofs.Trees.{refers-node, refers-row}
 use Rattle.paths.specs.Marks.{Mark, full, none, _⊑_}
 use Rattle.paths.specs.Commands.{PathEvent, read, write, choice, Ending, falls, stops, leaves, again, NoJump, Command, skip, emit, seq, alt, Runs, run-stop, run-skip, run-emit, run-emit-stop, run-seq, run-off, run-left, run-right}
 use Rattle.paths.specs.Semantics.{Order, row-order, free-order, Semantics}
-use Rattle.paths.specs.AnyOrder.{anyOrder, eitherFirst}
+use Rattle.paths.specs.AnyOrder.{eitherFirst}
 use Rattle.paths.specs.Triples.{at, never, Ends, Triple}
 use Rattle.paths.specs.Evaluation.{Truth, is-true, is-false, is-unknown, choiceOf, Evaluation, free, asked, both, either, inOrder, values, together, called, readIf, writeIf, noEvaluation, evaluationOf, evaluationAt, evaluations}
 use Rattle.paths.specs.Evaluates.{Evaluates, AllEvaluate, no-more, one-more}

@@ -6,7 +6,6 @@ use Rattle.table.specs.Fold.{nth, tail}
 use Rattle.paths.specs.Marks.{Mark, _⊑_, none, ⊑-refl, ⊑-full, none-⊑}
 use Rattle.paths.specs.Commands.{Command}
 use Rattle.paths.specs.Semantics.{Order, row-order, free-order}
-use Rattle.paths.specs.AnyOrder.{eitherFirst}
 use Rattle.paths.specs.Triples.{Triple, at, never}
 use Rattle.paths.specs.Evaluation.{Truth, is-true, is-false, is-unknown, choiceOf, Evaluation, free, ofAny, asked, notFalse, notTrue, both, either, conditional, inOrder, values, together, writeIf, noEvaluation}
 use Rattle.paths.specs.Each.{Each}

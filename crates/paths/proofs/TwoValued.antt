@@ -2,7 +2,7 @@
 -- unknown by such a choice only, as every row does (proofs/Unknown); and what they say can happen.
 use mathlib.Core.Logic.{⊎-elim}
 use mathlib.Core.List.{List}
-use Rattle.paths.specs.Commands.{PathEvent, falls, seq, Runs, run-seq, run-left, run-right}
+use Rattle.paths.specs.Commands.{PathEvent, falls, Runs, run-seq, run-left, run-right}
 use Rattle.paths.specs.Semantics.{Order}
 use Rattle.paths.specs.AnyOrder.{eitherFirst}
 use Rattle.paths.specs.Evaluation.{Truth, is-true, is-false, is-unknown, opposite, Evaluation, asked, notFalse, notTrue, both, either, conditional}

@@ -1,7 +1,7 @@
 -- Every evaluation in row order is one in free order: by induction over the rows, a form at a time. Where free order has a choice, row
 -- order is the first.
 use mathlib.Core.Bool.{Bool, true, false, cond}
-use mathlib.Core.List.{List, _∷_}
+use mathlib.Core.List.{List}
 use Prim.Native.Nat.{ℕ}
 use lib.Dec.{eqb}
 use Rattle.table.specs.Rows.{Forest}
@@ -10,11 +10,11 @@ use Rattle.table.proofs.Fold.{fold-related, related-at}
 use Rattle.kinds.specs.declared.ExprClass.{ExprClass}
 use Rattle.kinds.specs.declared.ExprClass.the-variants.{Ident, Call, Lident, Opaque, Event, Unary, Binary, Ternary, Paren, Other}
 use Rattle.kinds.specs.Named.{exprClass}
-use Rattle.reads.specs.PathRows.{begins, isLocal}
+use Rattle.reads.specs.PathRows.{begins}
 use Rattle.paths.specs.Commands.{Command, seq, run-skip}
 use Rattle.paths.specs.Semantics.{row-order, free-order, under}
 use Rattle.paths.specs.AnyOrder.{inTurn, eitherFirst}
-use Rattle.paths.specs.Evaluation.{Truth, is-true, is-false, is-unknown, opposite, Evaluation, free, ofAny, asked, both, either, conditional, inOrder, values, together, called, writeIf, target, noEvaluation, evaluationOf, evaluationAt, evaluations}
+use Rattle.paths.specs.Evaluation.{Truth, is-true, is-false, is-unknown, opposite, Evaluation, free, ofAny, asked, both, either, conditional, inOrder, values, together, called, writeIf, noEvaluation, evaluationOf, evaluationAt, evaluations}
 use Rattle.paths.proofs.Within.{Within, within-refl, within-trans, within-seq, within-alt, within-left, within-then, same-skip}
 use Rattle.paths.proofs.AnyOrder.{as-they-stand, every-order}
 

@@ -94,8 +94,8 @@ inOrder (e ∷ es) = seq (e .value) (inOrder es)
 abbrev pub values : List Evaluation → List Command
 values = map (λ e. e .value)
 
--- all of these: parts of a concatenation, selects, expressions of a delay, events of a list, an event and its iff, and what else has
--- more than two children
+-- all of these: parts of a concatenation, selects, expressions of a delay, events of a list, an event and its iff, and whatever a row
+-- holds that no other rule names
 abbrev pub together : Order → List Evaluation → Command
 together row-order es = inOrder es
 together free-order es = anyOrder (values es)

@@ -1,9 +1,8 @@
 -- In free order what is promised needs the premises on nonblocking rows: `y[x] <= 1;` is accepted and no iff of it refers, and a tool that
 -- evaluates its select at the statement reads.
 use mathlib.Core.Path.{_≡_, refl}
-use mathlib.Core.Bool.{Bool, true, false}
-use mathlib.Core.List.{List, [], _∷_}
-use Prim.Native.Nat.{ℕ}
+use mathlib.Core.Bool.{true, false}
+use mathlib.Core.List.{[], _∷_}
 use Rattle.table.specs.Rows.{Forest, nil, rest}
 use Rattle.table.specs.Fold.{fold}
 use Rattle.kinds.specs.Kinds.{kinds}
@@ -13,7 +12,7 @@ use Rattle.reads.specs.PathRows.{isNamed, begins, count, segments, isLocal, isM
 use Rattle.reads.specs.Mentions.{inRowOrder, passedOver, seenBelow, seenAt, seen, some, refers}
 use Rattle.reads.specs.NoRef.{stmtNoRef}
 use Rattle.reads.specs.Iffs.{iffHere, every, iffAt, iffQuiet}
-use Rattle.paths.specs.Commands.{PathEvent, read, stops, run-skip, run-emit-stop, run-seq, run-off, run-left, run-right}
+use Rattle.paths.specs.Commands.{read, stops, run-skip, run-emit-stop, run-seq, run-off, run-left, run-right}
 use Rattle.paths.specs.Semantics.{free-order, under}
 use Rattle.paths.specs.AnyOrder.{anyOrder}
 use Rattle.paths.specs.Evaluation.{evaluationAt}
@@ -29,7 +28,7 @@ use Rattle.loops.specs.Escape.{cannotEscapeAt}
 use Rattle.loops.specs.Time.{waitingWords, isOneOf, letsTimePass, advancesAt}
 use Rattle.da.specs.declared.DaOut.the-variants.{Falls}
 use Rattle.da.specs.declared.DaResult.the-variants.{Ok}
-use Rattle.da.specs.Outcome.{unwritten, written}
+use Rattle.da.specs.Outcome.{unwritten}
 use Rattle.da.specs.Walk.{daCtx, heldAt, walkAt, daStmt}
 
 -- `y[x] <= 1;`

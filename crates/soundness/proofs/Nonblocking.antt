@@ -2,7 +2,7 @@
 -- of classes and facts.
 use mathlib.Core.Path.{_≡_, refl, sym, _∙_}
 use mathlib.Core.Logic.{_⊎_, inl, inr, ⊎-elim}
-use mathlib.Core.Bool.{Bool, true, false, cond, _&&_, _||_, not}
+use mathlib.Core.Bool.{true, false, _&&_, _||_, not}
 use mathlib.Core.List.{List, []}
 use Prim.Native.Nat.{ℕ, zero, suc}
 use lib.Dec.{eqb}
@@ -22,7 +22,6 @@ use Rattle.reads.specs.Iffs.{every, iffQuiet}
 use Rattle.reads.proofs.Trees.{refers-row, quiet-children, quiet-others, quiet-alone, refers-quiet}
 use Rattle.paths.specs.Marks.{Mark, none-⊑}
 use Rattle.paths.specs.Evaluation.{Evaluation}
-use Rattle.paths.proofs.AnyOrder.{Keeps}
 use Rattle.paths.proofs.Evaluating.{evaluates-lift}
 use Rattle.expr_effect.specs.Law.{isPlain, ExprFacts, factsAt, exprFacts, noFacts, NoneRefer, none-left, ExprLaw}
 use Rattle.expr_effect.proofs.Laws.{none-refer}

@@ -1,11 +1,10 @@
 -- The rules of triples at the forms of specs/Execution that know an order. In free order no part counts what another writes.
-use mathlib.Core.List.{List, [], _∷_}
+use mathlib.Core.List.{List}
 use Rattle.paths.specs.Marks.{Mark, _⊑_, ⊑-refl}
-use Rattle.paths.specs.Each.{Each}
 use Rattle.paths.specs.Semantics.{Order, row-order, free-order, InFreeOrder, not-asked, holds}
 use Rattle.paths.specs.Commands.{Command}
 use Rattle.paths.specs.Triples.{Triple, at, never}
-use Rattle.paths.specs.Evaluation.{Evaluation, together, writeIf}
+use Rattle.paths.specs.Evaluation.{Evaluation, writeIf}
 use Rattle.paths.specs.Evaluates.{Evaluates, AllEvaluate, no-more, one-more}
 use Rattle.paths.proofs.Rules.{rule-skip, rule-seq, rule-alt}
 use Rattle.paths.proofs.AnyOrder.{Keeps, the-first, rule-any-gains}

@@ -2,7 +2,7 @@
 -- is one way of it.
 use mathlib.Core.Path.{_≡_, refl}
 use mathlib.Core.Bool.{Bool, true, false, cond}
-use mathlib.Core.List.{List, [], _∷_}
+use mathlib.Core.List.{List, []}
 use Prim.Native.Nat.{ℕ, suc}
 use lib.Dec.{eqb}
 use Rattle.table.specs.Rows.{Forest, nil, node}
@@ -11,9 +11,9 @@ use Rattle.table.proofs.Fold.{fold-related, related-at, related-tail}
 use Rattle.kinds.specs.declared.StmtClass.{StmtClass}
 use Rattle.kinds.specs.declared.StmtClass.the-variants.{Absent, Match, Default, Decl, Blocking, Nonblocking, If, Return, Case, For, While, Repeat, Forever, Block, Fork, Systask, Task, Delayctrl, Eventctrl, Wait, Disable, Null, Unmodelled, NoStmt}
 use Rattle.kinds.specs.Named.{stmtClass}
-use Rattle.paths.specs.Commands.{PathEvent, out-of-loop, out-of-round, Command, skip, seq, run-skip, run-seq, run-right}
+use Rattle.paths.specs.Commands.{PathEvent, out-of-loop, out-of-round, Command, run-skip, run-seq, run-right}
 use Rattle.paths.specs.Semantics.{row-order, free-order, under}
-use Rattle.paths.specs.Evaluation.{is-true, is-false, is-unknown, Evaluation, inOrder, noEvaluation, evaluations}
+use Rattle.paths.specs.Evaluation.{is-true, is-false, is-unknown, Evaluation, inOrder, noEvaluation}
 use Rattle.paths.proofs.Within.{Within, within-refl, within-trans, within-seq, within-alt, within-right, within-star, within-catch, within-then, same-assoc}
 use Rattle.paths.proofs.AnyOrder.{as-they-stand, every-order}
 use Rattle.paths.proofs.WithinFree.{EvaluationWithin, none-within, together-within, evaluations-within}

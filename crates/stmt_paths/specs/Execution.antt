@@ -147,9 +147,8 @@ nonblocking free-order delays event target right =
     anyOrder (right .value ∷ orNot (together free-order delays) ∷ orNot (event .value) ∷ orNot (target .value) ∷ [])
 
 -- a row from its class, side, children, their evaluations, the evaluations of what each child holds, and their executions.
--- "Return evaluates its value and ends the path" (12.8). "A systask evaluates its
--- arguments; null does nothing" (20, A.6.4). Delay and event control: 9.4.1, 9.4.2. "Fork counts as a read" (9.3.2), "and so do the
--- unmodelled forms".
+-- "Return evaluates its value and ends the path" (12.8). "A systask evaluates its arguments; null does nothing" (20, A.6.4). Delay and
+-- event control: 9.4.1, 9.4.2. "Fork counts as a read" (9.3.2), "and so do the unmodelled forms".
 abbrev pub executionOf : Semantics → ℕ → (ℕ → Bool) → StmtClass → ℕ → Forest → List Evaluation → List (List Evaluation) → List Execution → Execution
 executionOf sem x marks Match s cs es held rs = record { run = nth noExecution 0 rs .run; labels = tail es; isDefault = false }
 executionOf sem x marks Default s cs es held rs = record { run = nth noExecution 0 rs .run; labels = []; isDefault = true }
