@@ -21,7 +21,8 @@ pub data OfState (r : Record) (refusal : Refusal) (place : ℕ) : Type 0 where
 
 -- what an answer means to whoever has the record and the tables
 pub record AskMeans (r : Record) (rows names : List ℕ) (answer : Answer) : Type 0 where
-  -- accepted from the unwritten start: on every path every read of the local has a whole write before it, provided the premises
+  -- accepted from the unwritten start: on every path, in whatever order a tool takes, every read of the local has a whole write before it,
+  -- provided the premises
   pub safe : AcceptedAnswer answer → r .start ≡ 0 → SafePaths (r .local) (marksOf names) (rowTree r rows)
   -- falls with written 1, from that start: a path that falls through has written
   pub written : answer ≡ Falls true → r .start ≡ 0 → FallsWritten (r .local) (marksOf names) (rowTree r rows)

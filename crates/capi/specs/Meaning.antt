@@ -10,7 +10,8 @@ use Rattle.ask.specs.Ask.{rowTree}
 use Rattle.verdict.specs.Sheets.{sheetOf}
 use Rattle.verdict.specs.Meaning.{SafeSheet}
 
--- a sheet with start 0: provided the premises, on every path of its tree every read of its local has a whole write before it
+-- a sheet with start 0: provided the premises, on every path of its tree, in whatever order a tool takes, every read of its local has a
+-- whole write before it
 pub record TrueMeans (s : List ℕ) (accepted : Bool) : Type 0 where
   pub safe : accepted ≡ true → sheetOf s .start ≡ 0 → SafeSheet s
 

@@ -17,7 +17,8 @@ use Rattle.ask.specs.Ask.{askOf}
 use Rattle.verdict.specs.Sheets.{sheetOf}
 use Rattle.verdict.specs.Verdict.{verdictOf}
 
--- what is promised of a sheet: provided the premises, on every path of its tree every read of its local has a whole write before it
+-- what is promised of a sheet: provided the premises, on every path of its tree, in whatever order a tool takes, every read of its local
+-- has a whole write before it
 abbrev pub SafeSheet : List ℕ → Type 0
 SafeSheet s = SafePaths (sheetOf s .local) (sheetOf s .marks) (sheetOf s .tree)
 
