@@ -49,6 +49,21 @@ operators =
 -- a condition is evaluated, its operands in any order, and then is freely true, false or unknown
 abbrev truths : List Case
 truths =
+    isTrue (row "concat" 0 (X ∷ W ∷ [])) ((read ∷ write ∷ choice 1 ∷ []) ∷ (write ∷ read ∷ choice 1 ∷ []) ∷ []) ∷
+    isFalse (row "concat" 0 (X ∷ W ∷ [])) ((read ∷ write ∷ choice 0 ∷ []) ∷ (write ∷ read ∷ choice 0 ∷ []) ∷ []) ∷
+    isUnknown (row "concat" 0 (X ∷ W ∷ [])) ((read ∷ write ∷ choice 2 ∷ []) ∷ (write ∷ read ∷ choice 2 ∷ []) ∷ []) ∷
+    isTrue (callRow 0 (w ∷ []) (X ∷ W ∷ [])) ((read ∷ write ∷ choice 1 ∷ []) ∷ (write ∷ read ∷ choice 1 ∷ []) ∷ []) ∷
+    isFalse (callRow 0 (w ∷ []) (X ∷ W ∷ [])) ((read ∷ write ∷ choice 0 ∷ []) ∷ (write ∷ read ∷ choice 0 ∷ []) ∷ []) ∷
+    isUnknown (callRow 0 (w ∷ []) (X ∷ W ∷ [])) ((read ∷ write ∷ choice 2 ∷ []) ∷ (write ∷ read ∷ choice 2 ∷ []) ∷ []) ∷
+    isTrue (or! Y X) ((choice 0 ∷ read ∷ choice 1 ∷ []) ∷ (choice 1 ∷ []) ∷ (choice 2 ∷ read ∷ choice 1 ∷ []) ∷ []) ∷
+    isFalse (or! Y X) ((choice 0 ∷ read ∷ choice 0 ∷ []) ∷ []) ∷
+    isUnknown (or! Y X) ((choice 0 ∷ read ∷ choice 2 ∷ []) ∷ (choice 2 ∷ read ∷ choice 0 ∷ []) ∷ (choice 2 ∷ read ∷ choice 2 ∷ []) ∷ []) ∷
+    isTrue (paren (or! Y X)) ((choice 0 ∷ read ∷ choice 1 ∷ []) ∷ (choice 1 ∷ []) ∷ (choice 2 ∷ read ∷ choice 1 ∷ []) ∷ []) ∷
+    isFalse (paren (or! Y X)) ((choice 0 ∷ read ∷ choice 0 ∷ []) ∷ []) ∷
+    isUnknown (paren (or! Y X)) ((choice 0 ∷ read ∷ choice 2 ∷ []) ∷ (choice 2 ∷ read ∷ choice 0 ∷ []) ∷ (choice 2 ∷ read ∷ choice 2 ∷ []) ∷ []) ∷
+    isFalse (not! X) ((read ∷ choice 1 ∷ []) ∷ []) ∷
+    isUnknown (not! X) ((read ∷ choice 2 ∷ []) ∷ []) ∷
+    isFalse (and! Y X) ((choice 0 ∷ []) ∷ (choice 1 ∷ read ∷ choice 0 ∷ []) ∷ (choice 2 ∷ read ∷ choice 0 ∷ []) ∷ []) ∷
     isTrue (plus W X) ((read ∷ write ∷ choice 1 ∷ []) ∷ (write ∷ read ∷ choice 1 ∷ []) ∷ []) ∷
     isFalse (plus W X) ((read ∷ write ∷ choice 0 ∷ []) ∷ (write ∷ read ∷ choice 0 ∷ []) ∷ []) ∷
     isUnknown (plus W X) ((read ∷ write ∷ choice 2 ∷ []) ∷ (write ∷ read ∷ choice 2 ∷ []) ∷ []) ∷

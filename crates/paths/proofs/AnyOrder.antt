@@ -9,7 +9,7 @@ use native.Mathlib.Nat.{suc-inj, suc-ne-zero}
 use lib.ListN.{length}
 use Rattle.paths.specs.Each.{Each}
 use Rattle.paths.specs.Marks.{Mark, _⊑_}
-use Rattle.paths.specs.Commands.{PathEvent, Ending, Command, skip, seq, alt, Runs, run-stop, run-seq, run-off, run-left, run-right}
+use Rattle.paths.specs.Commands.{PathEvent, Ending, falls, Command, skip, seq, alt, Elsewhere, Runs, run-stop, run-seq, run-off, run-left, run-right}
 use Rattle.paths.specs.Triples.{Claim, at, never, Ends, Good, Triple}
 use Rattle.paths.specs.Semantics.{Order, row-order, free-order, InFreeOrder, not-asked, holds}
 use Rattle.paths.specs.AnyOrder.{inTurn, onePicked, picked, anyOrder, eitherFirst}
@@ -101,6 +101,28 @@ pub record InAnyOrder (cs : List Command) (c : Command) : Type 0 where
 
 pub in-any-order : (cs : List Command) → InAnyOrder cs (anyOrder cs)
 in-any-order cs = record { each = λ ds p. every-order p; only = only-orders cs }
+
+-- and then another
+pub data InSomeOrderThen (cs : List Command) (d : Command) (t : List PathEvent) (o : Ending) : Type 0 where
+  in-order-then : (ds : List Command) → Permuted cs ds → Runs (seq (inTurn ds) d) t o → InSomeOrderThen cs d t o
+
+pub record InAnyOrderThen (cs : List Command) (d c : Command) : Type 0 where
+  pub each : (ds : List Command) → Permuted cs ds → Within (seq (inTurn ds) d) c
+  pub only : (t : List PathEvent) (o : Ending) → Runs c t o → InSomeOrderThen cs d t o
+
+pub in-any-order-then : (cs : List Command) (d : Command) → InAnyOrderThen cs d (seq (anyOrder cs) d)
+in-any-order-then cs d = record { each = λ ds p. within-seq (every-order p) within-refl; only = only }
+  where
+    off : {s : List PathEvent} {o : Ending} → Elsewhere o → InSomeOrder cs s o → InSomeOrderThen cs d s o
+    off i (in-order-of ds p y) = in-order-then ds p (run-off i y)
+
+    next : {s t : List PathEvent} {o : Ending} → InSomeOrder cs s falls → Runs d t o → InSomeOrderThen cs d (s ++ t) o
+    next (in-order-of ds p y) z = in-order-then ds p (run-seq y z)
+
+    only : (t : List PathEvent) (o : Ending) → Runs (seq (anyOrder cs) d) t o → InSomeOrderThen cs d t o
+    only _ _ run-stop = in-order-then cs (as-they-stand cs) run-stop
+    only _ _ (run-off {s = s} {o = o} i x) = off i (only-orders cs s o x)
+    only _ _ (run-seq {s = s} x y) = next (only-orders cs s falls x) y
 
 -- However commands are put together
 

@@ -112,6 +112,12 @@ allOrders =
 -- where a choice tells: the right side is one whole child, and the write is last
 abbrev assignments : List Case
 assignments =
+    straight (assign (bitOf toY X) W) ((read ∷ write ∷ []) ∷ (write ∷ read ∷ []) ∷ []) ∷
+    straight (timed absent (intra absent (on (event X absent ∷ []))) (bitOf toY W) lit) ((read ∷ write ∷ []) ∷ (write ∷ read ∷ []) ∷ []) ∷
+    straight (timed (delay (X ∷ [])) (intra absent (on (event W absent ∷ []))) toX lit) ((read ∷ write ∷ write ∷ []) ∷ (write ∷ read ∷ write ∷ []) ∷ []) ∷
+    straight (timed (delay (X ∷ W ∷ [])) absent toY lit) ((read ∷ write ∷ []) ∷ (write ∷ read ∷ []) ∷ []) ∷
+    straight (timed (delay (X ∷ X ∷ [])) absent toY W) ((read ∷ read ∷ write ∷ []) ∷ (write ∷ read ∷ read ∷ []) ∷ []) ∷
+    straight (timed (delay (plus W X ∷ [])) absent toY lit) ((read ∷ write ∷ []) ∷ (write ∷ read ∷ []) ∷ []) ∷
     straight (timed (delay (X ∷ [])) absent (bitOf toY (not! Y)) W)
     ((read ∷ write ∷ choice 0 ∷ []) ∷
     (read ∷ write ∷ choice 1 ∷ []) ∷
@@ -159,6 +165,46 @@ assignments =
 -- writes
 abbrev nonblockings : List Case
 nonblockings =
+    straight (timedLater (delay (X ∷ [])) (intra absent (on (event W absent ∷ []))) toY lit)
+    ([] ∷ (read ∷ []) ∷ (read ∷ write ∷ []) ∷ (write ∷ []) ∷ (write ∷ read ∷ []) ∷ []) ∷
+    straight (timedLater absent (intra absent (on (event X absent ∷ []))) (bitOf toY W) lit)
+    ([] ∷ (read ∷ []) ∷ (read ∷ write ∷ []) ∷ (write ∷ []) ∷ (write ∷ read ∷ []) ∷ []) ∷
+    straight (timedLater (delay (X ∷ [])) absent (bitOf toY W) lit) ([] ∷ (read ∷ []) ∷ (read ∷ write ∷ []) ∷ (write ∷ []) ∷ (write ∷ read ∷ []) ∷ []) ∷
+    straight (timedLater (delay (W ∷ [])) (intra absent (on (event X absent ∷ []))) (bitOf toY X) lit)
+    ([] ∷
+    (read ∷ []) ∷
+    (read ∷ read ∷ []) ∷
+    (read ∷ read ∷ write ∷ []) ∷
+    (read ∷ write ∷ []) ∷
+    (read ∷ write ∷ read ∷ []) ∷
+    (write ∷ []) ∷
+    (write ∷ read ∷ []) ∷
+    (write ∷ read ∷ read ∷ []) ∷
+    []) ∷
+    straight (timedLater (delay (X ∷ [])) (intra absent (on (event W absent ∷ []))) (bitOf toY X) lit)
+    ([] ∷
+    (read ∷ []) ∷
+    (read ∷ read ∷ []) ∷
+    (read ∷ read ∷ write ∷ []) ∷
+    (read ∷ write ∷ []) ∷
+    (read ∷ write ∷ read ∷ []) ∷
+    (write ∷ []) ∷
+    (write ∷ read ∷ []) ∷
+    (write ∷ read ∷ read ∷ []) ∷
+    []) ∷
+    straight (timedLater (delay (X ∷ [])) (intra absent (on (event X absent ∷ []))) (bitOf toY W) lit)
+    ([] ∷
+    (read ∷ []) ∷
+    (read ∷ read ∷ []) ∷
+    (read ∷ read ∷ write ∷ []) ∷
+    (read ∷ write ∷ []) ∷
+    (read ∷ write ∷ read ∷ []) ∷
+    (write ∷ []) ∷
+    (write ∷ read ∷ []) ∷
+    (write ∷ read ∷ read ∷ []) ∷
+    []) ∷
+    straight (timedLater absent (intra absent (on (event X absent ∷ []))) toX lit) ([] ∷ (read ∷ []) ∷ []) ∷
+    straight (timedLater (delay (plus W X ∷ [])) absent toY lit) ([] ∷ (read ∷ write ∷ []) ∷ (write ∷ read ∷ []) ∷ []) ∷
     straight (assignLater (bitOf toY W) lit) ([] ∷ (write ∷ []) ∷ []) ∷
     straight (assignLater (bitOf toY X) lit) ([] ∷ (read ∷ []) ∷ []) ∷
     straight (assignLater toX lit) ([] ∷ []) ∷
@@ -261,6 +307,7 @@ arms =
 -- "expressions of a delay, an event list", in any order, and then the body
 abbrev controls : List Case
 controls =
+    straight (delayed (delay (X ∷ W ∷ X ∷ [])) null) ((read ∷ read ∷ write ∷ []) ∷ (read ∷ write ∷ read ∷ []) ∷ (write ∷ read ∷ read ∷ []) ∷ []) ∷
     straight (delayed (delay (plus W X ∷ [])) null) ((read ∷ write ∷ []) ∷ (write ∷ read ∷ []) ∷ []) ∷
     straight (delayed (delay (X ∷ W ∷ [])) reads) ((read ∷ write ∷ read ∷ []) ∷ (write ∷ read ∷ read ∷ []) ∷ []) ∷
     straight (awaits (on (event W absent ∷ event X absent ∷ [])) writes) ((read ∷ write ∷ write ∷ []) ∷ (write ∷ read ∷ write ∷ []) ∷ []) ∷
@@ -278,6 +325,9 @@ controls =
 -- "In sequence as before: ... a condition before its arms, ... initialisers, statements, rounds"
 abbrev sequenced : List Case
 sequenced =
+    rounds-to 0 (for 0 null (plus W X) null null)
+    (fall ((read ∷ write ∷ choice 0 ∷ []) ∷ (read ∷ write ∷ choice 2 ∷ []) ∷ (write ∷ read ∷ choice 0 ∷ []) ∷ (write ∷ read ∷ choice 2 ∷ []) ∷ [])) ∷
+    straight (block (decl x X ∷ [])) ((read ∷ []) ∷ []) ∷
     straight (ifElse (plus W X) (does W) (does X))
     ((read ∷ write ∷ choice 0 ∷ read ∷ []) ∷
     (read ∷ write ∷ choice 1 ∷ write ∷ []) ∷

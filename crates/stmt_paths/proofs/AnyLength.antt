@@ -11,16 +11,19 @@ use native.Mathlib.Omega.{arith}
 use lib.Dec.{eqb}
 use lib.ListN.{length}
 use Rattle.table.specs.Rows.{Forest}
-use Rattle.kinds.specs.declared.StmtClass.the-variants.{Match, Case, Block, Systask}
-use Rattle.paths.specs.Commands.{PathEvent, Ending, falls, stops, choice, out-of-loop, Command, skip, emit, exit, seq, star, catch, Runs, run-stop, run-skip, run-seq, run-off, run-left, run-right, run-none, run-more, run-catch}
+use Rattle.table.specs.Fold.{nth}
+use Rattle.kinds.specs.declared.StmtClass.{StmtClass}
+use Rattle.kinds.specs.declared.StmtClass.the-variants.{Match, Blocking, Nonblocking, Case, Block, Systask, Delayctrl}
+use Rattle.paths.specs.Commands.{PathEvent, Ending, falls, stops, choice, out-of-loop, Command, skip, emit, exit, seq, alt, star, catch, Runs, run-stop, run-skip, run-seq, run-off, run-left, run-right, run-none, run-more, run-catch}
 use Rattle.paths.specs.Semantics.{Order, row-order, free-order, Semantics, under}
-use Rattle.paths.specs.Evaluation.{Evaluation, inOrder, values}
+use Rattle.paths.specs.AnyOrder.{anyOrder}
+use Rattle.paths.specs.Evaluation.{Evaluation, inOrder, values, writeIf, noEvaluation}
 use Rattle.kinds.proofs.Below.{true-not-false}
 use Rattle.paths.specs.Each.{Each}
 use Rattle.paths.proofs.Within.{Within, within-refl, within-trans, within-seq, within-left, within-right, within-catch, Same, same-refl, same-sym, same-trans, same-seq, same-skip, same-assoc}
-use Rattle.paths.proofs.AnyOrder.{InAnyOrder, in-any-order}
+use Rattle.paths.proofs.AnyOrder.{InAnyOrder, in-any-order, InAnyOrderThen, in-any-order-then}
 use Rattle.paths.proofs.AnyLength.{in-turn, in-order-append}
-use Rattle.stmt_paths.specs.Execution.{Execution, oneByOne, hasDefault, noArm, allLabels, throughOne, chosenLabels, armsFrom, round, loop, executionOf}
+use Rattle.stmt_paths.specs.Execution.{Execution, noExecution, oneByOne, hasDefault, noArm, allLabels, chosenLabels, armsFrom, round, loop, executionOf}
 
 -- Rows of a block, arguments of a system task
 
@@ -37,6 +40,25 @@ module _ (x : ℕ) (marks : ℕ → Bool) (s : ℕ) (cs : Forest) (held : List (
 
   pub systask-in-any-order : (rs : List Execution) (es : List Evaluation) → InAnyOrder (values es) (executionOf (under free-order) x marks Systask s cs es held rs .run)
   systask-in-any-order rs es = in-any-order (values es)
+
+-- What an assignment, a nonblocking and a delay control evaluate in free order, however much a delay holds
+module _ (x : ℕ) (marks : ℕ → Bool) (s : ℕ) (cs : Forest) (es : List Evaluation) (held : List (List Evaluation)) (rs : List Execution) where
+  abbrev freeRun : StmtClass → Command
+  freeRun k = executionOf (under free-order) x marks k s cs es held rs .run
+
+  abbrev delayed : Command
+  delayed = anyOrder (values (nth [] 0 held))
+
+  pub blocking-in-any-order :
+      InAnyOrderThen (nth noEvaluation 3 es .value ∷ delayed ∷ nth noEvaluation 1 es .value ∷ nth noEvaluation 2 es .value ∷ []) (writeIf (nth noEvaluation 2 es .isPlainLocal)) (freeRun Blocking)
+  blocking-in-any-order = in-any-order-then _ _
+
+  pub nonblocking-in-any-order :
+      InAnyOrder (nth noEvaluation 3 es .value ∷ alt delayed skip ∷ alt (nth noEvaluation 1 es .value) skip ∷ alt (nth noEvaluation 2 es .value) skip ∷ []) (freeRun Nonblocking)
+  nonblocking-in-any-order = in-any-order _
+
+  pub delay-in-any-order : InAnyOrderThen (values (nth [] 0 held)) (nth noExecution 1 rs .run) (freeRun Delayctrl)
+  delay-in-any-order = in-any-order-then _ _
 
 -- Arms of a case
 
@@ -71,7 +93,7 @@ all-labels (r ∷ rs) = same-trans (in-order-append (r .labels) (labelsOf rs)) (
 
 -- the labels of the chosen arm in free order: up to each one of them, and nothing else
 
-pub every-label : (before : List Evaluation) (e : Evaluation) (after : List Evaluation) → Within (inOrder (before ++ (e ∷ []))) (throughOne (before ++ (e ∷ after)))
+pub every-label : (before : List Evaluation) (e : Evaluation) (after : List Evaluation) → Within (inOrder (before ++ (e ∷ []))) (chosenLabels free-order (before ++ (e ∷ after)))
 every-label [] e after = within-seq within-refl (within-left within-refl)
 every-label (b ∷ before) e after = within-seq within-refl (within-right (every-label before e after))
 
@@ -79,7 +101,7 @@ pub data LabelsRun (es : List Evaluation) (t : List PathEvent) (o : Ending) : Ty
   of-no-label : es ≡ [] → Runs skip t o → LabelsRun es t o
   up-to-label : (before : List Evaluation) (e : Evaluation) (after : List Evaluation) → es ≡ before ++ (e ∷ after) → Runs (inOrder (before ++ (e ∷ []))) t o → LabelsRun es t o
 
-pub only-labels : (es : List Evaluation) (t : List PathEvent) (o : Ending) → Runs (throughOne es) t o → LabelsRun es t o
+pub only-labels : (es : List Evaluation) (t : List PathEvent) (o : Ending) → Runs (chosenLabels free-order es) t o → LabelsRun es t o
 only-labels [] t o x = of-no-label refl x
 only-labels (e ∷ es) _ _ run-stop = up-to-label [] e es refl run-stop
 only-labels (e ∷ es) _ _ (run-off i x) = up-to-label [] e es refl (run-off i x)

@@ -548,6 +548,7 @@ abbrev sequences : List Case
 sequences =
     straight (block (decl b X ∷ decl y W ∷ reads ∷ writes ∷ [])) ((read ∷ write ∷ read ∷ write ∷ []) ∷ []) ∷
     straight (block (decl b absent ∷ [])) ([] ∷ []) ∷
+    straight (block (decl x X ∷ [])) ((read ∷ []) ∷ []) ∷
     straight (block (writes ∷ block (reads ∷ []) ∷ null ∷ writes ∷ [])) ((write ∷ read ∷ write ∷ []) ∷ []) ∷
     straight (block []) ([] ∷ []) ∷
     straight (row "systask" 0 (X ∷ W ∷ Y ∷ opaque ∷ [])) ((read ∷ write ∷ read ∷ []) ∷ []) ∷
@@ -625,7 +626,7 @@ howMany [] = 0
 howMany (true ∷ bs) = suc (howMany bs)
 howMany (false ∷ bs) = howMany bs
 
-pub loopless-cases : howMany (map (λ c. isWhole (c .extent) && loopless (commandOf c)) cases) ≡ 186
+pub loopless-cases : howMany (map (λ c. isWhole (c .extent) && loopless (commandOf c)) cases) ≡ 187
 unfolding fold evaluationAt heldAt executionAt exprClass stmtClass stmtClassIn stmtWords taskEffect numbered kindNumber kindOf placeFrom kinds same isNamed begins count segments isLocal isMarked isLoopJump inRowOrder seenBelow seenAt seen some refers loopless
 loopless-cases = refl
 
