@@ -2,7 +2,7 @@
 -- complete list of their runs, up to a number of rounds, in whatever order, each run once. Quoted is docs/DECISIONS.md, 115.
 -- `oracle/runs` lists them a second time.
 use mathlib.Core.Path.{_≡_, refl}
-use mathlib.Core.Bool.{true}
+use mathlib.Core.Bool.{Bool, true, false}
 use mathlib.Core.List.{List, [], _∷_, _++_, map}
 use Rattle.table.specs.Rows.{nil}
 use Rattle.table.specs.Fold.{fold}
@@ -11,6 +11,7 @@ use Rattle.kinds.specs.Words.{same, placeFrom, kindOf}
 use Rattle.kinds.specs.Named.{kindNumber, numbered, exprClass, stmtWords, stmtClassIn, stmtClass, taskEffect}
 use Rattle.reads.specs.PathRows.{isNamed, begins, count, segments, isLocal, isMarked, isLoopJump}
 use Rattle.reads.specs.Mentions.{inRowOrder, seenBelow, seenAt, seen, some, refers}
+use Rattle.reads.specs.Iffs.{every}
 use Rattle.paths.specs.Each.{Each}
 use Rattle.paths.specs.Commands.{PathEvent, read, write, outside, choice, Ending, falls, stops, Command, Runs}
 use Rattle.paths.specs.Semantics.{free-order, under}
@@ -19,6 +20,7 @@ use Rattle.paths.specs.Evaluation.{evaluationAt}
 use Rattle.paths.proofs.Listed.{Run, IsRun, followed, eachFollowed, rounds, listed, listed-run, each-imply, loopless, Settled, Among, all-listed, sameEvents, sameRun, isAmong, allAmong, sameRuns, same-each, same-among, each-same}
 use Rattle.paths.proofs.Strength.{Row, row, x, y, w, X, Y, W, lit, absent, not!, plus, event}
 use Rattle.stmt_paths.specs.Execution.{heldAt, executionAt, executed, IsPath}
+use Rattle.stmt_paths.specs.Premises.{refersAt, plainAt, nonblockingHere, nonblockingAt, nonblockingQuiet}
 use Rattle.stmt_paths.proofs.Strength.{j, b, marks, timed, assign, timedLater, assignLater, delay, on, intra, toX, toY, bitOf, writes, reads, block, decl, ifElse, returns, caseOf, arm, default, for, while, repeat, forever, disable, task, delayed, awaits, wait, null, Case, fall, straight, rounds-to}
 
 -- a system task with one argument, whose order is fixed where an assignment has 24
@@ -442,3 +444,27 @@ pub only-runs : Each OnlyRuns cases
 only-runs =
     each-same (λ c rs. loopless (commandOf c) ≡ true → (t : List PathEvent) (o : Ending) → Settled o → Runs (commandOf c) t o → Among (t, o) rs) shown (λ c. c .expected)
     (λ c e q t o s r. same-among (shown c) (c .expected) e (t, o) (all-listed (c .most) q s r)) cases joint
+
+-- The premises on nonblocking rows, which free order asks for: at the row and at those below it, and of no other kind
+
+abbrev premises : List (Row × Bool)
+premises =
+    (assignLater toX X, true) ∷
+    (assignLater toY X, true) ∷
+    (assignLater (bitOf toY Y) lit, true) ∷
+    (timedLater (delay (Y ∷ [])) (intra Y (on (event Y absent ∷ []))) toX lit, true) ∷
+    (assign (bitOf toY X) lit, true) ∷
+    (block (reads ∷ writes ∷ []), true) ∷
+    (assignLater (bitOf toY X) lit, false) ∷
+    (assignLater (bitOf toX Y) lit, false) ∷
+    (assignLater (row "lconcat" 0 (toX ∷ [])) lit, false) ∷
+    (timedLater (delay (Y ∷ X ∷ [])) absent toX lit, false) ∷
+    (timedLater absent (intra X (on [])) toX lit, false) ∷
+    (timedLater absent (intra absent (on (event Y X ∷ []))) toY lit, false) ∷
+    (block (null ∷ assignLater (bitOf toY X) lit ∷ []), false) ∷
+    (while 0 Y (assignLater (bitOf toY X) lit), false) ∷
+    []
+
+pub joint-premises : map (λ p. nonblockingQuiet x (p .0 nil)) premises ≡ map (λ p. p .1) premises
+unfolding fold exprClass numbered kindNumber kindOf placeFrom kinds same isNamed begins count segments isLocal inRowOrder seenBelow seenAt seen some refers refersAt plainAt every nonblockingHere nonblockingAt nonblockingQuiet
+joint-premises = refl
