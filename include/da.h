@@ -105,7 +105,7 @@ bool da_load(const uint8_t *sheet, size_t sheet_length, uint32_t *rows, size_t r
  * and are checked as far as the record counts before anything is trusted: they may come from anywhere.
  * True: accepted, falls or jumps. With start 0, and provided the premises that the README lists, every read of the local then has a write
  * before it on every path, whether its conditions come out true, false or unknown, and in whatever order a tool evaluates operands,
- * arguments and the like, as far as IEEE 1800 leaves it open.
+ * arguments and the like, each of them as a whole; docs/DIFFERENCES.md says what a tool may do beyond that.
  * False: a give-up, with reason and span; or refusal 22 or 23, with its place. */
 bool da_ask(const da_record *record, const uint32_t *rows, size_t rows_length, const uint32_t *names, size_t names_length,
             da_answer *answer);

@@ -19,7 +19,7 @@ use Rattle.da.specs.Walk.{daCtx, daStmt}
 -- what is promised of a tree: "whatever truth its conditions take, whichever arm, if any, each case picks, whichever way each loop jump
 -- goes and whatever number of rounds each loop runs" (every list of events that is a path, with the choices among them), "every read
 -- of the local on its path has a whole write before it, provided" (the premises, at every row). "the call and loop facts are true":
--- a path takes the side numbers as given. And whatever order a tool takes: that of document 01, or any other that IEEE 1800 leaves open.
+-- a path takes the side numbers as given. And whatever order a tool takes: row order or free order.
 abbrev pub SafePaths : ℕ → (ℕ → Bool) → Forest → Type 0
 SafePaths x marks f = Premises x marks f → (o : Order) (t : List PathEvent) → IsPath (under o) x marks f t → ReadsWritten t
 
