@@ -77,7 +77,7 @@ enum { DA_FALLS = 0, DA_JUMPS = 1, DA_GIVEUP = 2, DA_REFUSED = 3 };
 typedef struct {
     size_t answer; /* DA_FALLS .. DA_REFUSED */
     size_t state;  /* falls: 1 if the local is written wherever the statement ends */
-    size_t reason; /* a give-up's reason, 1..9 below; a refusal's number */
+    size_t reason; /* a give-up's reason, 1..9 as above; a refusal's number */
     size_t lo;     /* a give-up's span, as the sheet has it; a refusal's place */
     size_t hi;
 } da_answer;

@@ -47,7 +47,7 @@ fn halves(measured: &[Measured]) -> Vec<Target> {
 
 fn walks(measured: &[Measured]) -> Vec<Target> {
     let puzzles = measured.iter().filter(|one| one.case.family == Family::Puzzle);
-    full_size(measured).chain(puzzles).map(|one| target("(b) ask / da_stmt", one, 2.0, costs(one).walk_ratio())).collect()
+    full_size(measured).chain(puzzles).map(|one| target("(b) ask / da_stmt", one, 3.2, costs(one).walk_ratio())).collect()
 }
 
 /// One sheet's cost to another's.

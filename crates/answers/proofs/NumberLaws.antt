@@ -1,9 +1,9 @@
--- The numbers of each answer.
+-- The numbers of each answer: a law for each arm of the match.
 use Prim.Native.Nat.{ℕ}
 use mathlib.Core.Path.{_≡_}
 use mathlib.Core.Bool.{Bool}
-use Rattle.sheet.specs.declared.Refusal.{Refusal}
-use Rattle.sheet.specs.Load.{refusalNumber}
+use Rattle.refusals.specs.declared.Refusal.{Refusal}
+use Rattle.refusals.specs.Refusals.{refusalNumber}
 use Rattle.da.specs.declared.DaGiveUp.{DaGiveUp}
 use Rattle.answers.specs.declared.Answer.{Answer}
 use Rattle.answers.specs.declared.Answer.the-variants.{Falls, Jumps, GivesUp, Refused}

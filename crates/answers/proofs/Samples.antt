@@ -5,8 +5,7 @@ use mathlib.Core.Path.{_≡_, refl}
 use mathlib.Core.Bool.{true, false}
 use mathlib.Core.List.{List, [], _∷_, _++_}
 use Rattle.kinds.specs.Kinds.{bytes}
-use Rattle.checks.specs.declared.Fault.the-variants.{WrongEnd}
-use Rattle.sheet.specs.declared.Refusal.the-variants.{TooLong, Rows}
+use Rattle.refusals.specs.declared.Refusal.the-variants.{WrongEnd, TooLong}
 use Rattle.writing.specs.Spelling.{spelledBy, spelled, fieldText}
 use Rattle.answers.specs.declared.Answer.{Answer}
 use Rattle.answers.specs.declared.Answer.the-variants.{Falls, Jumps, GivesUp, Refused}
@@ -29,7 +28,7 @@ pub record Samples : Type 0 where
   pub falls-written : joined (Falls true) ≡ line "answer=falls;state=1;reason=0;lo=0;hi=0"
   pub falls-unwritten : joined (Falls false) ≡ line "answer=falls;state=0;reason=0;lo=0;hi=0"
   pub jumps : joined Jumps ≡ line "answer=jumps;state=0;reason=0;lo=0;hi=0"
-  pub wrong-end : joined (Refused (Rows WrongEnd) 9) ≡ line "answer=refused;state=0;reason=7;lo=9;hi=0"
+  pub wrong-end : joined (Refused WrongEnd 9) ≡ line "answer=refused;state=0;reason=7;lo=9;hi=0"
   pub too-long : joined (Refused TooLong 0) ≡ line "answer=refused;state=0;reason=10;lo=0;hi=0"
   pub large : joined (GivesUp (record { reason = 9; lo = 4294967295; hi = 18446744073709551615 })) ≡ line "answer=giveup;state=0;reason=9;lo=4294967295;hi=18446744073709551615"
 

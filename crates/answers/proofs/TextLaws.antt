@@ -1,4 +1,4 @@
--- The text of an answer, field by field.
+-- The text of an answer, field by field: each field is put after those before it, and the places of all are at most 128.
 use Prim.Native.Nat.{ℕ, zero, suc, _-_, _≤_}
 use mathlib.Core.Path.{_≡_, sym}
 use mathlib.Core.Bool.{Bool}
@@ -7,7 +7,7 @@ use native.Mathlib.Nat.{sub-zero}
 use native.Mathlib.Omega.{arith}
 use lib.ListN.{length, take, drop, replicate}
 use Rattle.kinds.specs.Kinds.{bytes}
-use Rattle.sheet.specs.declared.Refusal.{Refusal}
+use Rattle.refusals.specs.declared.Refusal.{Refusal}
 use Rattle.da.specs.declared.DaGiveUp.{DaGiveUp}
 use Rattle.writing.specs.Spelling.{spelled, fieldText}
 use Rattle.writing.specs.Putting.{PutAt}

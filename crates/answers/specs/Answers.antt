@@ -4,7 +4,7 @@ use mathlib.Core.Bool.{Bool, true, false}
 use mathlib.Core.List.{List, [], _∷_, _++_}
 use lib.ListN.{length, getD, replicate}
 use Rattle.kinds.specs.Kinds.{bytes}
-use Rattle.sheet.specs.Load.{refusalNumber}
+use Rattle.refusals.specs.Refusals.{refusalNumber}
 use Rattle.writing.specs.Spelling.{spelled, fieldText}
 use Rattle.answers.specs.declared.Answer.{Answer}
 use Rattle.answers.specs.declared.Answer.the-variants.{Falls, Jumps, GivesUp, Refused}
@@ -34,12 +34,22 @@ abbrev pub bitOf : Bool → ℕ
 bitOf true = 1
 bitOf false = 0
 
+-- the five numbers, in the order in which they are printed
+abbrev pub fiveNumbers : ℕ → ℕ → ℕ → ℕ → ℕ → Numbers
+fiveNumbers answer state reason lo hi = record { answer = answer; state = state; reason = reason; lo = lo; hi = hi }
+
 -- "state is written, 0 unless falls; a refusal prints its number as reason, its place as lo. Unused is 0"
 abbrev pub numbersOf : Answer → Numbers
-numbersOf (Falls written) = record { answer = 0; state = bitOf written; reason = 0; lo = 0; hi = 0 }
-numbersOf Jumps = record { answer = 1; state = 0; reason = 0; lo = 0; hi = 0 }
-numbersOf (GivesUp stop) = record { answer = 2; state = 0; reason = stop .reason; lo = stop .lo; hi = stop .hi }
-numbersOf (Refused refusal place) = record { answer = 3; state = 0; reason = refusalNumber refusal; lo = place; hi = 0 }
+numbersOf (Falls written) = fiveNumbers 0 (bitOf written) 0 0 0
+numbersOf Jumps = fiveNumbers 1 0 0 0 0
+numbersOf (GivesUp stop) = fiveNumbers 2 0 (stop .reason) (stop .lo) (stop .hi)
+numbersOf (Refused refusal place) = fiveNumbers 3 0 (refusalNumber refusal) place 0
+
+-- the numbers of a walk's answer: "falls with written 0 or 1; jumps; give-up with reason, lo, hi"
+pub data WalkNumbers : Numbers → Type 0 where
+  falls : (written : Bool) → WalkNumbers (fiveNumbers 0 (bitOf written) 0 0 0)
+  jumps : WalkNumbers (fiveNumbers 1 0 0 0 0)
+  gives-up : (reason lo hi : ℕ) → WalkNumbers (fiveNumbers 2 0 reason lo hi)
 
 -- the word of an answer
 abbrev pub wordOf : Answer → List ℕ

@@ -1,6 +1,6 @@
 // What the caller of asking gets: one of four answers, its numbers, and its text.
 use da::DaGiveUp;
-use sheet::Refusal;
+use refusals::Refusal;
 ghost use mathlib.Core.Path.{_≡_};
 ghost use Prim.Native.Nat.{_+_, _≤_};
 ghost use lib.ListN.{length, take};
@@ -78,7 +78,7 @@ pub fn numbers_of(answer: Answer) -> Numbers
         Answer::Refused(refusal, place) => Numbers {
             answer: 3,
             state: 0,
-            reason: sheet::number_of(refusal) as usize,
+            reason: refusals::number_of(refusal),
             lo: place,
             hi: 0,
         },

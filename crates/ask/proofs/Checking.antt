@@ -1,4 +1,4 @@
--- What the functions answer, from what stands in the code where they return.
+-- What the functions answer, from what stands in the code where they return: a law for each place, with the tests before it as premises.
 use Prim.Native.Nat.{ℕ, _*_, _≤_}
 use mathlib.Core.Path.{_≡_, refl, sym, _∙_}
 use mathlib.Core.Bool.{Bool, true, false, not, and-eq-true-iff}
@@ -9,39 +9,22 @@ use lib.ListN.{length}
 use borrow.Author.Needs.{needs}
 use borrow.Author.Tests.{leb-true, not-true, not-false}
 use Rattle.table.specs.Rows.{tree}
-use Rattle.checks.specs.declared.Fault.{Fault}
+use Rattle.refusals.specs.declared.Refusal.{Refusal}
 use Rattle.checks.specs.declared.Checked.{Checked}
 use Rattle.checks.specs.declared.Checked.the-variants as C
-use Rattle.checks.specs.Checks.{fieldsOf, childrenOf}
-use Rattle.checks.proofs.Rows.{both-pass}
-use Rattle.checks.proofs.Passed.{children-passed}
-use Rattle.one_pass.specs.Right.{PassesAll}
+use Rattle.checks.proofs.Passed.{checked-children}
 use Rattle.sheet_record.specs.declared.Record.{Record}
 use Rattle.sheet_record.specs.Records.{recordFits, marksOf, recordHeld, marksFit}
-use Rattle.sheet.specs.declared.Refusal.the-variants.{WrongRecord, WrongTable}
+use Rattle.refusals.specs.declared.Refusal.the-variants.{WrongRecord, WrongTable}
 use Rattle.da.specs.declared.DaOut.{DaOut}
 use Rattle.da.specs.declared.DaGiveUp.{DaGiveUp}
 use Rattle.da.specs.declared.DaResult.{DaResult}
 use Rattle.da.specs.declared.DaResult.the-variants.{Ok, Err}
 use Rattle.da.specs.Walk.{daCtx, daStmt}
-use Rattle.da_walk.specs.Constructs.{StatementIn}
+use Rattle.da_walk.specs.Statement.{StatementIn}
 use Rattle.answers.specs.declared.Answer.{Answer}
 use Rattle.answers.specs.declared.Answer.the-variants.{Refused}
 use Rattle.ask.specs.Ask.{tableChecked, walked, walkAnswer, tableAnswer, askOf}
-
--- table_checked
-pub passes-at-once : (r : Record) (rows : List ℕ) (b : Bool) → PassesAll rows (r .rows) (r .names) b → b ≡ true → C.Passed ≡ tableChecked r rows
-unfolding tableChecked
-passes-at-once r rows b w e = rw (w .fields e, w .children e)
-
-module _ (r : Record) (rows : List ℕ) (c : Checked) (e : c ≡ fieldsOf rows (r .rows) (r .names)) where
-  pub fields-refused : (fault : Fault) (row : ℕ) → c ≡ C.Refused fault row → c ≡ tableChecked r rows
-  unfolding tableChecked
-  fields-refused fault row h = h ∙ rw (← e, h)
-
-  pub fields-passed : (d : Checked) → c ≡ C.Passed → d ≡ childrenOf rows (r .rows) → d ≡ tableChecked r rows
-  unfolding tableChecked
-  fields-passed d h v = v ∙ rw (← e, h)
 
 -- walk_answer
 module _ (d : DaResult) where
@@ -54,10 +37,8 @@ module _ (d : DaResult) where
 -- walk
 -- a table that passes has a statement as its first row
 pub table-statement : (r : Record) (rows : List ℕ) → tableChecked r rows ≡ C.Passed → StatementIn rows 0 (r .rows)
-unfolding tableChecked
 table-statement r rows e =
-    let both = both-pass (fieldsOf rows (r .rows) (r .names)) (childrenOf rows (r .rows)) e in
-    let right = children-passed rows (r .rows) (childrenOf rows (r .rows)) refl (both .1) in
+    let right = checked-children rows (r .rows) (r .names) (tableChecked r rows) refl e in
     record { nested = right .ends .nested; some = omega (arith, right .ends .held .some); statement = right .statement }
 
 pub walk-is : (r : Record) (rows names : List ℕ) (d : DaResult) (a : Answer)
@@ -71,13 +52,13 @@ module _ (r : Record) (rows names : List ℕ) (d : Checked) (v : d ≡ tableChec
   pub table-passed : d ≡ C.Passed → tableChecked r rows ≡ C.Passed
   table-passed q = sym v ∙ q
 
-  pub table-refused : (fault : Fault) (row : ℕ) → d ≡ C.Refused fault row → Refused WrongTable row ≡ tableAnswer r rows names
-  table-refused fault row q = rw (← v, q)
+  pub table-refused : (refusal : Refusal) (row : ℕ) → d ≡ C.Refused refusal row → Refused WrongTable row ≡ tableAnswer r rows names
+  table-refused refusal row q = rw (← v, q)
 
   pub table-walked : (a : Answer) → d ≡ C.Passed → a ≡ walkAnswer (walked r rows names) → a ≡ tableAnswer r rows names
   table-walked a q w = w ∙ rw (← v, q)
 
-pub ruleset checking = (needs, passes-at-once, fields-refused, fields-passed, answers-stop, answers-out, table-statement, walk-is, table-passed, table-refused, table-walked)
+pub ruleset checking = (needs, answers-stop, answers-out, table-statement, walk-is, table-passed, table-refused, table-walked)
 
 -- ask
 module _ (r : Record) (rows names : List ℕ) (b : Bool) (e : b ≡ recordHeld r (length rows) (length names)) where

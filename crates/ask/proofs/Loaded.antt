@@ -1,4 +1,4 @@
--- Tables as loading leaves them are not refused.
+-- Tables as loading leaves them are not refused: they pass the check, and asking is the walk.
 use Prim.Native.Nat.{ℕ, zero, suc, _*_, _≤_, _<_}
 use mathlib.Core.Path.{_≡_, refl}
 use mathlib.Core.Bool.{true}
@@ -7,6 +7,7 @@ use native.Mathlib.Omega.{arith}
 use lib.ListN.{length}
 use borrow.Author.Tests.{le-leb}
 use Rattle.checks.specs.declared.Checked.the-variants as C
+use Rattle.checks.proofs.Passed.{fields-passed, children-passed, checked-pass}
 use Rattle.sheet_record.specs.declared.Record.{Record}
 use Rattle.sheet_record.specs.Records.{markAt, recordHeld, marksFit}
 use Rattle.sheet.specs.Meaning.{Asked}
@@ -22,9 +23,8 @@ module _ (r : Record) (rows names : List ℕ) (a : Asked r rows names) where
   unfolding recordHeld
   is-held = rw (a .fits, le-leb (5 * r .rows) (length rows) (a .rows-held), le-leb (3 * r .names) (length names) (a .names-held))
 
-  is-checked : tableChecked r rows ≡ C.Passed
-  unfolding tableChecked
-  is-checked = rw (a .fields, a .children)
+  pub is-checked : tableChecked r rows ≡ C.Passed
+  is-checked = checked-pass rows (r .rows) (r .names) (fields-passed rows (r .rows) (r .names) _ refl (a .fields)) (children-passed rows (r .rows) _ refl (a .children))
 
   pub asked-walks : askOf r rows names ≡ walkAnswer (walked r rows names)
   unfolding askOf

@@ -1,19 +1,18 @@
--- What an answer means, from demand 3 over trees.
+-- What an answer means, from demand 3 over trees: asking refuses with 22 or 23, or answers as the walk does, by cases of the definition; then what the
+-- walk means is what the answer means.
 use mathlib.Core.Path.{_≡_, refl}
 use mathlib.Core.Bool.{Bool, true, false, cond, and-eq-true-iff}
 use mathlib.Core.List.{List}
-use Prim.Native.Nat.{ℕ, _*_}
+use Prim.Native.Nat.{ℕ, _*_, _<_}
 use native.Mathlib.Omega.{arith}
 use lib.Dec.{eqb, leb}
 use lib.ListN.{length}
 use borrow.Author.Tests.{leb-true}
 use Rattle.checks.specs.declared.Checked.{Checked}
 use Rattle.checks.specs.declared.Checked.the-variants as C
-use Rattle.checks.specs.Checks.{fieldsOf}
-use Rattle.checks.specs.Held.{Held}
-use Rattle.checks.proofs.Places.{Within, both, fields-place, children-place}
-use Rattle.sheet.specs.declared.Refusal.{Refusal}
-use Rattle.sheet.specs.declared.Refusal.the-variants.{WrongRecord, WrongTable}
+use Rattle.checks.specs.Steps.{Held}
+use Rattle.checks.proofs.Places.{Within, checked-place}
+use Rattle.refusals.specs.declared.Refusal.the-variants.{WrongRecord, WrongTable}
 use Rattle.sheet_record.specs.declared.Record.{Record}
 use Rattle.sheet_record.specs.Records.{recordFits, marksOf, recordHeld, marksFit}
 use Rattle.sheet_record.proofs.Ranges.{fits-rows}
@@ -24,13 +23,14 @@ use Rattle.da.specs.Outcome.{State, Accepted}
 use Rattle.soundness.proofs.Demand3.{walk-means}
 use Rattle.answers.specs.declared.Answer.{Answer}
 use Rattle.answers.specs.declared.Answer.the-variants.{Falls, Jumps, Refused}
-use Rattle.answers.specs.Answers.{AcceptedAnswer}
+use Rattle.answers.specs.Answers.{AcceptedAnswer, numbersOf, WalkNumbers, falls, jumps, gives-up}
 use Rattle.ask.specs.Ask.{tableChecked, rowTree, startOf, walked, walkAnswer, afterTable, tableAnswer, askOf}
-use Rattle.ask.specs.Meaning.{OfState, of-record, of-table, AskMeans}
+use Rattle.ask.specs.Meaning.{AskNumbers, walked as walked-numbers, wrong-record, wrong-table, AskMeans}
 
 -- asking refuses, or answers as the walk does
 pub data AskedTo (r : Record) (rows names : List ℕ) : Answer → Type 0 where
-  refuses : (refusal : Refusal) (place : ℕ) → OfState r refusal place → AskedTo r rows names (Refused refusal place)
+  no-record : AskedTo r rows names (Refused WrongRecord 0)
+  no-table : (row : ℕ) → row < r .rows → AskedTo r rows names (Refused WrongTable row)
   walks : AskedTo r rows names (walkAnswer (walked r rows names))
 
 -- where a record is held, the table holds its rows
@@ -42,21 +42,20 @@ record-table r rows nameRoom e =
 
 -- a refusal of a table is at one of its rows
 table-place : (r : Record) (rows : List ℕ) → Held rows (r .rows) → Within 0 (r .rows) 9 (tableChecked r rows)
-unfolding tableChecked
-table-place r rows h = both (fieldsOf rows (r .rows) (r .names)) (fields-place rows (r .rows) h (r .names)) (λ p. children-place rows (r .rows) h)
+table-place r rows h = checked-place rows (r .rows) h (r .names)
 
 module _ (r : Record) (rows names : List ℕ) where
   checked-to : (c : Checked) → Within 0 (r .rows) 9 c → AskedTo r rows names (afterTable c (walkAnswer (walked r rows names)))
   checked-to C.Passed w = walks
-  checked-to (C.Refused fault row) w = refuses WrongTable row (of-table refl (w .row fault row refl .1))
+  checked-to (C.Refused refusal row) w = no-table row (w .row refusal row refl .1)
 
   marked-to : Held rows (r .rows) → (b : Bool) → AskedTo r rows names (cond b (tableAnswer r rows names) (Refused WrongTable 0))
   marked-to h true = checked-to (tableChecked r rows) (table-place r rows h)
-  marked-to h false = refuses WrongTable 0 (of-table refl (omega (arith, h .some)))
+  marked-to h false = no-table 0 (omega (arith, h .some))
 
   held-to : (b : Bool) → recordHeld r (length rows) (length names) ≡ b → AskedTo r rows names (cond b (cond (marksFit names (r .names)) (tableAnswer r rows names) (Refused WrongTable 0)) (Refused WrongRecord 0))
   held-to true e = marked-to (record-table r rows (length names) e) (marksFit names (r .names))
-  held-to false e = refuses WrongRecord 0 (of-record refl refl)
+  held-to false e = no-record
 
   pub asked-to : AskedTo r rows names (askOf r rows names)
   unfolding askOf
@@ -77,28 +76,32 @@ walk-jumps (Ok (O.Falls b)) h = cc
 walk-jumps (Ok O.Jumps) h = refl
 walk-jumps (Err stop) h = cc
 
--- the walk refuses nothing
-pub never-refused : (d : DaResult) (refusal : Refusal) (place : ℕ) → walkAnswer d ≡ Refused refusal place → ⊥
-never-refused (Ok (O.Falls a)) refusal place e = let z : _≡_ {A = ℕ} 0 1 = cc in omega arith
-never-refused (Ok O.Jumps) refusal place e = let z : _≡_ {A = ℕ} 0 1 = cc in omega arith
-never-refused (Err stop) refusal place e = let z : _≡_ {A = ℕ} 0 1 = cc in omega arith
+-- the walk's answers in numbers
+pub walk-numbers : (d : DaResult) → WalkNumbers (numbersOf (walkAnswer d))
+walk-numbers (Ok (O.Falls a)) = falls a
+walk-numbers (Ok O.Jumps) = jumps
+walk-numbers (Err stop) = gives-up (stop .reason) (stop .lo) (stop .hi)
 
 module _ (r : Record) (rows names : List ℕ) where
   accepted-walk : {a : Answer} → AskedTo r rows names a → AcceptedAnswer a → Accepted (walked r rows names)
-  accepted-walk (refuses refusal place o) h = absurd h
+  accepted-walk no-record h = absurd h
+  accepted-walk (no-table row b) h = absurd h
   accepted-walk walks h = walk-accepted (walked r rows names) h
 
   falls-walk : {a : Answer} → AskedTo r rows names a → a ≡ Falls true → walked r rows names ≡ Ok (O.Falls true)
-  falls-walk (refuses refusal place o) h = cc
+  falls-walk no-record h = cc
+  falls-walk (no-table row b) h = cc
   falls-walk walks h = walk-falls (walked r rows names) true h
 
   jumps-walk : {a : Answer} → AskedTo r rows names a → a ≡ Jumps → walked r rows names ≡ Ok O.Jumps
-  jumps-walk (refuses refusal place o) h = cc
+  jumps-walk no-record h = cc
+  jumps-walk (no-table row b) h = cc
   jumps-walk walks h = walk-jumps (walked r rows names) h
 
-  refused-of : {a : Answer} → AskedTo r rows names a → (refusal : Refusal) (place : ℕ) → a ≡ Refused refusal place → OfState r refusal place
-  refused-of (refuses f p o) refusal place h = let same : f ≡ refusal = cc in let there : p ≡ place = cc in rw (← same, ← there) o
-  refused-of walks refusal place h = absurd (never-refused (walked r rows names) refusal place h)
+  told-numbers : {a : Answer} → AskedTo r rows names a → AskNumbers r (numbersOf a)
+  told-numbers no-record = wrong-record
+  told-numbers (no-table row b) = wrong-table row b
+  told-numbers walks = walked-numbers (walk-numbers (walked r rows names))
 
   -- "start 0" is the unwritten start
   unwritten-start : r .start ≡ 0 → startOf r ≡ false
@@ -112,9 +115,8 @@ module _ (r : Record) (rows names : List ℕ) where
         safe = λ h z. walk .safe (accepted-walk asked h) (unwritten-start z);
         written = λ h z. walk .written (falls-walk asked h) (unwritten-start z);
         away = λ h. walk .away (jumps-walk asked h);
-        of-state = refused-of asked;
       }
 
--- both clauses of the contract
-pub ask-told : (r : Record) (rows names : List ℕ) (a : Answer) → a ≡ askOf r rows names → (a ≡ askOf r rows names) × AskMeans r rows names a
-ask-told r rows names a e = (e, ask-means r rows names a e)
+-- all clauses of the contract
+pub ask-told : (r : Record) (rows names : List ℕ) (a : Answer) → a ≡ askOf r rows names → (a ≡ askOf r rows names) × (AskNumbers r (numbersOf a) × AskMeans r rows names a)
+ask-told r rows names a e = (e, (rw e (told-numbers r rows names (asked-to r rows names)), ask-means r rows names a e))

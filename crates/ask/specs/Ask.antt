@@ -7,10 +7,10 @@ use lib.ListN.{length}
 use Rattle.table.specs.Rows.{Forest, tree}
 use Rattle.checks.specs.declared.Checked.{Checked}
 use Rattle.checks.specs.declared.Checked.the-variants as C
-use Rattle.checks.specs.Checks.{andThen, fieldsOf, childrenOf}
+use Rattle.checks.specs.Checks.{checkedRows}
 use Rattle.sheet_record.specs.declared.Record.{Record}
 use Rattle.sheet_record.specs.Records.{recordHeld, marksFit, marksOf}
-use Rattle.sheet.specs.declared.Refusal.the-variants.{WrongRecord, WrongTable}
+use Rattle.refusals.specs.declared.Refusal.the-variants.{WrongRecord, WrongTable}
 use Rattle.da.specs.declared.DaOut.{DaOut}
 use Rattle.da.specs.declared.DaOut.the-variants as O
 use Rattle.da.specs.declared.DaResult.{DaResult}
@@ -20,9 +20,9 @@ use Rattle.da.specs.Walk.{daCtx, daStmt}
 use Rattle.answers.specs.declared.Answer.{Answer}
 use Rattle.answers.specs.declared.Answer.the-variants.{Falls, Jumps, GivesUp, Refused}
 
--- "23: a row number in the table breaks 5 to 9, a segment names no listed name"; "fields, ends and depth, children, each in row order"
-unfoldable pub tableChecked : Record → List ℕ → Checked
-tableChecked r rows = andThen (fieldsOf rows (r .rows) (r .names)) (childrenOf rows (r .rows))
+-- "23: a row number in the table breaks 5 to 9, a segment names no listed name"
+abbrev pub tableChecked : Record → List ℕ → Checked
+tableChecked r rows = checkedRows rows (r .rows) (r .names)
 
 -- the tree of a record's rows
 abbrev pub rowTree : Record → List ℕ → Forest
@@ -49,7 +49,7 @@ walkAnswer (Err stop) = GivesUp stop
 -- "23 (ask; place is the row)", or what follows
 abbrev pub afterTable : Checked → Answer → Answer
 afterTable C.Passed next = next
-afterTable (C.Refused fault row) next = Refused WrongTable row
+afterTable (C.Refused refusal row) next = Refused WrongTable row
 
 -- the checks of the rows, then the walk
 abbrev pub tableAnswer : Record → List ℕ → List ℕ → Answer

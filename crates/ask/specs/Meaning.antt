@@ -1,5 +1,5 @@
--- What an answer means: demand 3 over the tables that were asked, what the accepted answers say of a path that goes on, and where a
--- refusal stands. Definitions only.
+-- What an answer means: demand 3 over the tables that were asked, what the accepted answers say of a path that goes on, and the
+-- numbers of each answer. Definitions only.
 use mathlib.Core.Path.{_≡_}
 use mathlib.Core.Bool.{true}
 use mathlib.Core.List.{List}
@@ -7,17 +7,17 @@ use Prim.Native.Nat.{ℕ, _<_}
 use Rattle.soundness.specs.Demand3.{SafePaths, FallsWritten, NeverFalls}
 use Rattle.sheet_record.specs.declared.Record.{Record}
 use Rattle.sheet_record.specs.Records.{marksOf}
-use Rattle.sheet.specs.declared.Refusal.{Refusal}
-use Rattle.sheet.specs.Load.{refusalNumber}
 use Rattle.answers.specs.declared.Answer.{Answer}
-use Rattle.answers.specs.declared.Answer.the-variants.{Falls, Jumps, Refused}
-use Rattle.answers.specs.Answers.{AcceptedAnswer}
+use Rattle.answers.specs.declared.Answer.the-variants.{Falls, Jumps}
+use Rattle.answers.specs.declared.Numbers.{Numbers}
+use Rattle.answers.specs.Answers.{AcceptedAnswer, fiveNumbers, WalkNumbers}
 use Rattle.ask.specs.Ask.{rowTree}
 
--- "22 (ask, name)", told no place; "23 (ask; place is the row)", or place 0 for a mark
-pub data OfState (r : Record) (refusal : Refusal) (place : ℕ) : Type 0 where
-  of-record : refusalNumber refusal ≡ 22 → place ≡ 0 → OfState r refusal place
-  of-table : refusalNumber refusal ≡ 23 → place < r .rows → OfState r refusal place
+-- what asking tells in numbers: the walk's, or "22 (ask, name)", told no place, or "23 (ask; place is the row)", place 0 for a mark
+pub data AskNumbers (r : Record) : Numbers → Type 0 where
+  walked : {n : Numbers} → WalkNumbers n → AskNumbers r n
+  wrong-record : AskNumbers r (fiveNumbers 3 0 22 0 0)
+  wrong-table : (row : ℕ) → row < r .rows → AskNumbers r (fiveNumbers 3 0 23 row 0)
 
 -- what an answer means to whoever has the record and the tables
 pub record AskMeans (r : Record) (rows names : List ℕ) (answer : Answer) : Type 0 where
@@ -28,5 +28,3 @@ pub record AskMeans (r : Record) (rows names : List ℕ) (answer : Answer) : Typ
   pub written : answer ≡ Falls true → r .start ≡ 0 → FallsWritten (r .local) (marksOf names) (rowTree r rows)
   -- jumps, from either start: no path falls through
   pub away : answer ≡ Jumps → NeverFalls (r .local) (marksOf names) (rowTree r rows)
-  -- a refusal is one of asking's, and points at a row of the table
-  pub of-state : (refusal : Refusal) (place : ℕ) → answer ≡ Refused refusal place → OfState r refusal place

@@ -5,26 +5,13 @@ use checks::Checked;
 use da::DaOut;
 use da::DaResult;
 use da_rows::Context;
-use sheet::Refusal;
+use refusals::Refusal;
 use sheet_record::Record;
 ghost use mathlib.Core.Path.{_≡_};
 ghost use Rattle.checks.specs.declared.Checked.the-variants.{Passed};
+ghost use Rattle.answers.specs.Answers.{numbersOf};
 ghost use Rattle.ask.specs.Ask.{tableChecked, walkAnswer, walked, tableAnswer, askOf};
-ghost use Rattle.ask.specs.Meaning.{AskMeans};
-
-// The checks of the rows: kinds and sides, then ends and depth, then children. One pass tells of most tables that they pass.
-fn table_checked(record: Record, rows: &[u32]) -> Checked
-    ensures { λ r. ⌜ r ≡ tableChecked «record» (now (rows .entry)) ⌝ }
-{
-    if one_pass::passes(rows, record.rows, record.names) {
-        return Checked::Passed;
-    }
-    let fields = checks::fields(rows, record.rows, record.names);
-    let Checked::Passed = fields else {
-        return fields;
-    };
-    child_checks::children(rows, record.rows)
-}
+ghost use Rattle.ask.specs.Meaning.{AskNumbers, AskMeans};
 
 fn walk_answer(result: DaResult) -> Answer
     ensures { λ r. ⌜ r ≡ walkAnswer result ⌝ }
@@ -38,8 +25,8 @@ fn walk_answer(result: DaResult) -> Answer
     }
 }
 
-// The walk of row 0, from the record's start.
-fn walk(record: Record, rows: &[u32], names: &[u32]) -> Answer
+// The walk of row 0, from the record's start, in a table that passes the check.
+pub fn walk(record: Record, rows: &[u32], names: &[u32]) -> Answer
     requires { ⌜ tableChecked «record» (now rows) ≡ Passed ⌝ }
     ensures { λ r. ⌜ r ≡ walkAnswer (walked «record» (now (rows .entry)) (now (names .entry))) ⌝ }
 {
@@ -50,13 +37,13 @@ fn walk(record: Record, rows: &[u32], names: &[u32]) -> Answer
     walk_answer(da_walk::da_stmt(rows, names, ctx, 0, record.rows, record.start == 1))
 }
 
-// The checks of the rows, then the walk.
+// The check of the rows, then the walk.
 fn table_answer(record: Record, rows: &[u32], names: &[u32]) -> Answer
     ensures { λ r. ⌜ r ≡ tableAnswer «record» (now (rows .entry)) (now (names .entry)) ⌝ }
 {
-    let checked = table_checked(record, rows);
+    let checked = checks::check(rows, record.rows, record.names);
     match checked {
-        Checked::Refused(fault, row) => Answer::Refused(Refusal::WrongTable, row),
+        Checked::Refused(refusal, row) => Answer::Refused(Refusal::WrongTable, row),
         Checked::Passed => walk(record, rows, names),
     }
 }
@@ -64,6 +51,7 @@ fn table_answer(record: Record, rows: &[u32], names: &[u32]) -> Answer
 // Whether every read of the local comes after a write, in the sheet that these tables hold.
 pub fn ask(record: Record, rows: &[u32], names: &[u32]) -> Answer
     ensures { λ r. ⌜ r ≡ askOf «record» (now (rows .entry)) (now (names .entry)) ⌝ }
+    ensures numbers { λ r. ⌜ AskNumbers «record» (numbersOf r) ⌝ }
     ensures means { λ r. ⌜ AskMeans «record» (now (rows .entry)) (now (names .entry)) r ⌝ }
 {
     if !sheet_record::record_held(record, rows.len(), names.len()) {

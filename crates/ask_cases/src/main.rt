@@ -32,12 +32,12 @@ fn one_case(text: &[u8]) {
     let row_size = case_text::after(record, b'|');
     let row_text = case_text::after(row_size, b'|');
     let name_size = case_text::after(row_text, b'|');
-    case_text::fill(&mut rows, case_text::before(row_text, b'|'));
-    case_text::fill(&mut names, case_text::after(name_size, b'|'));
+    case_text::set_table(&mut rows, case_text::before(row_text, b'|'));
+    case_text::set_table(&mut names, case_text::after(name_size, b'|'));
     say(case_text::before(text, b'|'));
     say(b": ");
     report(
-        case_text::record_of(case_text::before(record, b'|')),
+        case_text::read_record(case_text::before(record, b'|')),
         &rows,
         case_text::decimal(case_text::before(row_size, b'|')),
         &names,

@@ -1,4 +1,4 @@
--- What each call tells C, from what the call below it answered.
+-- What each call tells C, from what the call below it answered: an answer that equals a definition is told by the numbers of that definition.
 use Prim.Native.Nat.{ℕ}
 use mathlib.Core.Path.{_≡_, refl, sym, ap, subst, _∙_}
 use mathlib.Core.Bool.{Bool, true, true≢false}
@@ -6,9 +6,10 @@ use mathlib.Core.List.{List, [], _∷_}
 use lib.ListN.{getD}
 use borrow.Author.Needs.{needs}
 use Rattle.sheet_record.specs.declared.Record.{Record}
-use Rattle.sheet.specs.declared.Refusal.{Refusal}
+use Rattle.refusals.specs.declared.Refusal.{Refusal}
 use Rattle.sheet.specs.declared.Loaded.{Loaded}
-use Rattle.sheet.specs.Load.{refusalNumber, refusalOf, placeOf, recordOf}
+use Rattle.refusals.specs.Refusals.{refusalNumber}
+use Rattle.sheet.specs.Load.{refusalOf, placeOf, recordOf}
 use Rattle.sheet.specs.Meaning.{LoadMeans}
 use Rattle.answers.specs.declared.Answer.{Answer}
 use Rattle.answers.specs.declared.Answer.the-variants.{Falls, Jumps, GivesUp, Refused}
@@ -29,8 +30,8 @@ answer-put a n e = rw e
 pub record-put : (l : Loaded) (r : Record) → r ≡ recordOf l → r .names ∷ r .rows ∷ r .local ∷ r .start ∷ r .sole ∷ [] ≡ loadedNumbers l
 record-put l r e = rw e
 
-pub refusal-put : (l : Loaded) (n w p : ℕ) → w ≡ n → n ≡ refusalOf l → p ≡ placeOf l → w ∷ p ∷ [] ≡ refusalNumbers l
-refusal-put l n w p e f g = rw (e, f, g)
+pub refusal-put : (l : Loaded) (n p : ℕ) → n ≡ refusalOf l → p ≡ placeOf l → n ∷ p ∷ [] ≡ refusalNumbers l
+refusal-put l n p f g = rw (f, g)
 
 pub record-read : (ns : List ℕ) → record { names = getD ns 0 0; rows = getD ns 1 0; local = getD ns 2 0; start = getD ns 3 0; sole = getD ns 4 0 } ≡ recordFrom ns
 unfolding recordFrom
@@ -39,8 +40,8 @@ record-read ns = refl
 pub place-put : (n : Named) (offset size : ℕ) → n ≡ N.At offset size → offset ∷ size ∷ 0 ∷ [] ≡ placeNumbers n
 place-put n offset size e = rw e
 
-pub no-place-put : (n : Named) (refusal : Refusal) (number w : ℕ) → n ≡ N.Refused refusal → w ≡ number → number ≡ refusalNumber refusal → 0 ∷ 0 ∷ w ∷ [] ≡ placeNumbers n
-no-place-put n refusal number w e f g = rw (e, f, g)
+pub no-place-put : (n : Named) (refusal : Refusal) (number : ℕ) → n ≡ N.Refused refusal → number ≡ refusalNumber refusal → 0 ∷ 0 ∷ number ∷ [] ≡ placeNumbers n
+no-place-put n refusal number e g = rw (e, g)
 
 -- an answer that is told to be accepted is
 pub accepted-is : (a : Answer) → isAccepted a ≡ true → AcceptedAnswer a

@@ -7,19 +7,20 @@ use lib.ListN.{getD}
 use Rattle.sheet_record.specs.declared.Record.{Record}
 use Rattle.sheet.specs.declared.Loaded.{Loaded}
 use Rattle.sheet.specs.declared.Loaded.the-variants as L
-use Rattle.sheet.specs.Load.{refusalNumber, refusalOf, placeOf, recordOf, loadOf}
+use Rattle.refusals.specs.Refusals.{refusalNumber}
+use Rattle.sheet.specs.Load.{refusalOf, placeOf, recordOf, loadOf}
 use Rattle.answers.specs.declared.Answer.{Answer}
 use Rattle.answers.specs.Answers.{numbersOf}
 use Rattle.names.specs.declared.Named.{Named}
 use Rattle.names.specs.declared.Named.the-variants as N
 
 -- "fewer than 5 numbers a row": 2,000 rows
-abbrev pub rowNumbers : ℕ
-rowNumbers = 5 * 2000
+abbrev pub mostRowNumbers : ℕ
+mostRowNumbers = 5 * 2000
 
 -- "fewer than 3 a name": 500 names
-abbrev pub nameNumbers : ℕ
-nameNumbers = 3 * 500
+abbrev pub mostNameNumbers : ℕ
+mostNameNumbers = 3 * 500
 
 -- tables of these lengths or longer are too short for no sheet: 21 is never the answer
 abbrev pub RoomFor : ℕ → ℕ → Type 0

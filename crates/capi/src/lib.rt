@@ -12,14 +12,14 @@ ghost use Rattle.answers.specs.Answers.{isAccepted};
 ghost use Rattle.ask.specs.Ask.{askOf};
 ghost use Rattle.verdict.specs.Verdict.{verdictOf};
 ghost use Rattle.names.specs.NameText.{namePlace};
-ghost use Rattle.capi.specs.Numbers.{rowNumbers, nameNumbers, RoomFor, answerNumbers, isLoaded, loadedNumbers, refusalNumbers, recordFrom, isFound, placeNumbers};
+ghost use Rattle.capi.specs.Numbers.{mostRowNumbers, mostNameNumbers, RoomFor, answerNumbers, isLoaded, loadedNumbers, refusalNumbers, recordFrom, isFound, placeNumbers};
 ghost use Rattle.capi.specs.Meaning.{TrueMeans, AskedTrueMeans};
 
 // How many numbers a row table needs to hold every sheet.
 #[no_mangle]
 pub extern "C" fn da_row_numbers() -> usize
-    ensures { λ r. ⌜ r ≡ rowNumbers ⌝ }
-    ensures room { λ r. ⌜ RoomFor r nameNumbers ⌝ }
+    ensures { λ r. ⌜ r ≡ mostRowNumbers ⌝ }
+    ensures room { λ r. ⌜ RoomFor r mostNameNumbers ⌝ }
 {
     10000
 }
@@ -27,14 +27,14 @@ pub extern "C" fn da_row_numbers() -> usize
 // How many numbers a name table needs to hold every sheet.
 #[no_mangle]
 pub extern "C" fn da_name_numbers() -> usize
-    ensures { λ r. ⌜ r ≡ nameNumbers ⌝ }
-    ensures room { λ r. ⌜ RoomFor rowNumbers r ⌝ }
+    ensures { λ r. ⌜ r ≡ mostNameNumbers ⌝ }
+    ensures room { λ r. ⌜ RoomFor mostRowNumbers r ⌝ }
 {
     1500
 }
 
 // An answer's five numbers for C.
-fn put_answer(answer: Answer, out: &mut [usize; 5])
+fn tell_answer(answer: Answer, out: &mut [usize; 5])
     ensures { λ _. ⌜ now (out .exit) ≡ answerNumbers answer ⌝ }
 {
     let n = answers::numbers_of(answer);
@@ -42,7 +42,7 @@ fn put_answer(answer: Answer, out: &mut [usize; 5])
 }
 
 // A loaded record's five numbers for C, zeros where the load was refused.
-fn put_record(loaded: Loaded, out: &mut [usize; 5])
+fn tell_record(loaded: Loaded, out: &mut [usize; 5])
     ensures { λ _. ⌜ now (out .exit) ≡ loadedNumbers loaded ⌝ }
 {
     let r = sheet::record_of(loaded);
@@ -50,13 +50,10 @@ fn put_record(loaded: Loaded, out: &mut [usize; 5])
 }
 
 // A refused load's number and line for C, zeros where it was not refused.
-fn put_refusal(loaded: Loaded, out: &mut [usize; 2])
+fn tell_refusal(loaded: Loaded, out: &mut [usize; 2])
     ensures { λ _. ⌜ now (out .exit) ≡ refusalNumbers loaded ⌝ }
 {
-    *out = [
-        table::wide(sheet::refusal_of(loaded)),
-        sheet::place_of(loaded),
-    ];
+    *out = [sheet::refusal_of(loaded), sheet::place_of(loaded)];
 }
 
 fn loaded_well(loaded: Loaded) -> bool
@@ -85,8 +82,8 @@ pub extern "C" fn da_load(
     ensures means { λ r. ⌜ LoadMeans (loadOf (now (sheet .entry)) (length (now (rows .entry))) (length (now (names .entry))) .answer) (now (rows .exit)) (now (names .exit)) ⌝ }
 {
     let loaded = load::load(sheet, rows, names);
-    put_record(loaded, record);
-    put_refusal(loaded, refusal);
+    tell_record(loaded, record);
+    tell_refusal(loaded, refusal);
     loaded_well(loaded)
 }
 
@@ -116,7 +113,7 @@ pub extern "C" fn da_ask(
     ensures demand_3 { λ r. ⌜ AskedTrueMeans (recordFrom (now («record» .entry))) (now (rows .entry)) (now (names .entry)) r ⌝ }
 {
     let asked = ask::ask(record_from(record), rows, names);
-    put_answer(asked, answer);
+    tell_answer(asked, answer);
     answers::accepted(asked)
 }
 
@@ -135,12 +132,12 @@ pub extern "C" fn da_verdict(
     ensures demand_3 { λ r. ⌜ TrueMeans (now (sheet .entry)) r ⌝ }
 {
     let told = verdict::verdict(sheet, rows, names);
-    put_answer(told, answer);
+    tell_answer(told, answer);
     answers::accepted(told)
 }
 
 // A place's three numbers for C: offset, length and the refusal's number.
-fn put_place(named: Named, out: &mut [usize; 3])
+fn tell_place(named: Named, out: &mut [usize; 3])
     ensures { λ _. ⌜ now (out .exit) ≡ placeNumbers named ⌝ }
 {
     match named {
@@ -148,7 +145,7 @@ fn put_place(named: Named, out: &mut [usize; 3])
             *out = [offset, size, 0];
         }
         Named::Refused(refusal) => {
-            *out = [0, 0, table::wide(sheet::number_of(refusal))];
+            *out = [0, 0, refusals::number_of(refusal)];
         }
     }
 }
@@ -175,6 +172,6 @@ pub extern "C" fn da_name(
     ensures told { λ r. ⌜ now (place .exit) ≡ placeNumbers (namePlace (now (sheet .entry)) (recordFrom (now («record» .entry))) (now (names .entry)) number) ⌝ }
 {
     let named = names::name_place(sheet, record_from(record), names, number);
-    put_place(named, place);
+    tell_place(named, place);
     found(named)
 }

@@ -1,4 +1,5 @@
--- The numbers of a text, set in a table one after another.
+-- The numbers of a text, set in a table one after another: what the loop knows at a place, and the step to the next part. That a text is
+-- its first part and the parts after it is shown by induction over its bytes.
 use Prim.Native.Nat.{ℕ, zero, suc, _+_, _-_, _%_, _≤_, _<_}
 use mathlib.Core.Bool.{Bool, true, false, cond}
 use mathlib.Core.Path.{_≡_, refl, sym, ap, _∙_}
@@ -10,7 +11,7 @@ use lib.ListN.{length, getD, set, take, drop, length-set, drop-of-length-le}
 use lib.Seq.{drop-cons, drop-drop, length-take-le}
 use borrow.Author.Tests.{ltb-false}
 use Rattle.case_text.proofs.Places.{part-whole}
-use Rattle.case_text.specs.Texts.{firstPlace, pastPlace, spelled, longer, parts, setNumbers}
+use Rattle.case_text.specs.Texts.{firstPlace, pastPlace, saturatingDecimal, longer, parts, setNumbers}
 
 -- a text begins with the part before the first such byte
 abbrev FirstPart : ℕ → List ℕ → Type 0
@@ -80,7 +81,7 @@ module _ {table₀ text table : List ℕ} {at i : ℕ} (w : Filling table₀ tex
   unfolding parts setNumbers
   table-end h = sym (w .same ∙ rw (drop-of-length-le text h))
 
-  pub fill-on : at < length text → (part : List ℕ) → part ≡ take (firstPlace 32 (take (length text - at) (drop at text))) (take (length text - at) (drop at text)) → (v : ℕ) → v ≡ spelled 0 part % 4294967296 → (into : List ℕ) → into ≡ set table i v → (r : ℕ) → at < r → r ≤ length text → r ≡ pastPlace (length text) at (length part) → Filling table₀ text into r (i + 1)
+  pub fill-on : at < length text → (part : List ℕ) → part ≡ take (firstPlace 32 (take (length text - at) (drop at text))) (take (length text - at) (drop at text)) → (v : ℕ) → v ≡ saturatingDecimal 0 part % 4294967296 → (into : List ℕ) → into ≡ set table i v → (r : ℕ) → at < r → r ≤ length text → r ≡ pastPlace (length text) at (length part) → Filling table₀ text into r (i + 1)
   unfolding setNumbers
   fill-on h part p v e into q r a b d =
       let f : parts 32 (drop at text) ≡ part ∷ parts 32 (drop r text) = parts-from text at h part (p ∙ rw (part-whole text at)) r d in

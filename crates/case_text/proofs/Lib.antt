@@ -3,3 +3,4 @@ pub mod Numbers
 pub mod Puts
 pub mod Fills
 pub mod RowLaws
+pub mod Blocks

@@ -1,4 +1,5 @@
--- The numbers that the code makes of bytes and numbers, one after another.
+-- The numbers that the code makes of bytes and numbers, one after another: what a loop knows at a place, and the step to the next.
+-- Nothing recurses.
 use Prim.Native.Nat.{ℕ, suc, _+_, _*_, _-_, _%_, _≤_, _<_}
 use mathlib.Core.Path.{_≡_, refl, sym, ap, _∙_}
 use mathlib.Core.List.{List}
@@ -7,28 +8,28 @@ use native.Mathlib.Omega.{arith}
 use lib.ListN.{length, getD, drop, drop-of-length-le}
 use lib.Seq.{drop-cons}
 use borrow.Author.Tests.{le-leb, lt-leb, lt-ltb, le-ltb}
-use Rattle.case_text.specs.Texts.{spelled, hexDigit, digestStep, digestOf}
+use Rattle.case_text.specs.Texts.{saturatingDecimal, hexDigit, digestStep, digestOf}
 
 -- what the reading of a number knows at place i, with the number v
 pub record Reading (text : List ℕ) (i v : ℕ) : Type 0 where
   pub bound : v ≤ 18446744073709551615
-  pub same : spelled 0 text ≡ spelled v (drop i text)
+  pub same : saturatingDecimal 0 text ≡ saturatingDecimal v (drop i text)
 
 pub read-start : (text : List ℕ) → Reading text 0 0
 read-start text = record { bound = omega arith; same = refl }
 
 module _ (text : List ℕ) (i v : ℕ) (w : Reading text i v) where
-  pub read-end : length text ≤ i → v ≡ spelled 0 text
-  unfolding spelled
+  pub read-end : length text ≤ i → v ≡ saturatingDecimal 0 text
+  unfolding saturatingDecimal
   read-end h = sym (w .same ∙ rw (drop-of-length-le text h))
 
   module _ (h : i < length text) where
-    pub read-much : 1844674407370955160 < v → 18446744073709551615 ≡ spelled 0 text
-    unfolding spelled
+    pub read-much : 1844674407370955160 < v → 18446744073709551615 ≡ saturatingDecimal 0 text
+    unfolding saturatingDecimal
     read-much l = sym (w .same ∙ rw (drop-cons text i 0 h, lt-ltb 1844674407370955160 v l))
 
     pub read-on : v ≤ 1844674407370955160 → (d : ℕ) → d ≤ 15 → d ≡ getD text i 0 % 16 → Reading text (i + 1) (v * 10 + d)
-    unfolding spelled
+    unfolding saturatingDecimal
     read-on l d m e = record {
       bound = omega arith;
       same = w .same ∙ rw (drop-cons text i 0 h, le-ltb 1844674407370955160 v l, ← e, add-one);

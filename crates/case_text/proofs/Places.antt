@@ -1,4 +1,4 @@
--- The places that the code finds in a text, test by test.
+-- The places that the code finds in a text, test by test: what a loop knows at a place, and the step to the next. Nothing recurses.
 use Prim.Native.Nat.{ℕ, _+_, _-_, _≤_, _<_}
 use mathlib.Core.Path.{_≡_, sym, _∙_}
 use mathlib.Core.List.{List}

@@ -1,4 +1,4 @@
--- Bytes that are put one after another.
+-- Bytes that are put one after another: what a loop knows at a byte, and the step to the next. Nothing recurses.
 use Prim.Native.Nat.{ℕ, _+_, _≤_, _<_}
 use mathlib.Core.Path.{_≡_, refl, sym, ap, _∙_}
 use mathlib.Core.List.{List}

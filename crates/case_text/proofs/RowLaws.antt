@@ -1,4 +1,5 @@
--- A record, kinds and rows as a case's text gives them.
+-- A record, kinds and rows as a case's text gives them: what the code has found is a premise, so that every answer is a search. Nothing
+-- recurses.
 use Prim.Native.Nat.{ℕ, _+_, _*_, _/_, _%_, _≤_, _<_}
 use mathlib.Core.Path.{_≡_, sym, ap, _∙_}
 use mathlib.Core.List.{List}
@@ -8,7 +9,7 @@ use Rattle.kinds.specs.declared.Found.{Found}
 use Rattle.kinds.specs.declared.Found.the-variants.{Is, Unknown}
 use Rattle.kinds.specs.Words.{kindOf}
 use Rattle.sheet_record.specs.declared.Record.{Record}
-use Rattle.case_text.specs.Texts.{firstPlace, spelled, numberBefore, textAfter}
+use Rattle.case_text.specs.Texts.{firstPlace, saturatingDecimal, numberBefore, textAfter}
 use Rattle.kinds.specs.Named.{kindNumber}
 use Rattle.case_text.specs.RowTexts.{recordText, kindField, setRow}
 
@@ -21,7 +22,7 @@ unfolding kindNumber
 no-kind f word e q = sym (ap kindNumber q) ∙ ap kindNumber e
 
 module _ (text : List ℕ) (k : ℕ) (e : k ≡ kindNumber (kindOf text)) where
-  pub by-number : (r : ℕ) → k ≡ 66 → r ≡ spelled 0 text % 4294967296 → r ≡ kindField text
+  pub by-number : (r : ℕ) → k ≡ 66 → r ≡ saturatingDecimal 0 text % 4294967296 → r ≡ kindField text
   unfolding kindField
   by-number r q s = rw (eq-eqb (kindNumber (kindOf text)) 66 (sym e ∙ q)) s
 
@@ -39,13 +40,13 @@ module _ (rows : List ℕ) (i kind side end : ℕ) where
   unfolding setRow
   row-set h = rw (lt-leb (length rows / 5) i h)
 
-pub number-told : (byte : ℕ) (text part : List ℕ) (r : ℕ) → part ≡ take (firstPlace byte text) text → r ≡ spelled 0 part → r ≡ numberBefore byte text
-number-told byte text part r p e = e ∙ ap (spelled 0) p
+pub number-told : (byte : ℕ) (text part : List ℕ) (r : ℕ) → part ≡ take (firstPlace byte text) text → r ≡ saturatingDecimal 0 part → r ≡ numberBefore byte text
+number-told byte text part r p e = e ∙ ap (saturatingDecimal 0) p
 
 -- the texts after each number, and the numbers
 module _ (text rows local start sole : List ℕ) (r : Record) where
   pub record-told : rows ≡ textAfter 32 text → local ≡ textAfter 32 rows → start ≡ textAfter 32 local → sole ≡ textAfter 32 start
-      → r .names ≡ numberBefore 32 text → r .rows ≡ numberBefore 32 rows → r .local ≡ numberBefore 32 local → r .start ≡ numberBefore 32 start → r .sole ≡ spelled 0 sole
+      → r .names ≡ numberBefore 32 text → r .rows ≡ numberBefore 32 rows → r .local ≡ numberBefore 32 local → r .start ≡ numberBefore 32 start → r .sole ≡ saturatingDecimal 0 sole
       → r ≡ recordText text
   unfolding recordText
   record-told a b c d n o p q s = rw (n, o, p, q, s, d, c, b, a)

@@ -19,13 +19,13 @@ unfoldable pub pastPlace : ℕ → ℕ → ℕ → ℕ
 pastPlace size at n = cond (ltb n (size - at)) (at + n + 1) size
 
 -- the number that digits spell after some whose number is v, or the largest of 64 bits where one more digit may not fit
-unfoldable pub spelled : ℕ → List ℕ → ℕ
-spelled v [] = v
-spelled v (b ∷ t) = cond (ltb 1844674407370955160 v) 18446744073709551615 (spelled (v * 10 + b % 16) t)
+unfoldable pub saturatingDecimal : ℕ → List ℕ → ℕ
+saturatingDecimal v [] = v
+saturatingDecimal v (b ∷ t) = cond (ltb 1844674407370955160 v) 18446744073709551615 (saturatingDecimal (v * 10 + b % 16) t)
 
 -- the number that a text spells up to such a byte, and the text after it
 abbrev pub numberBefore : ℕ → List ℕ → ℕ
-numberBefore byte text = spelled 0 (take (firstPlace byte text) text)
+numberBefore byte text = saturatingDecimal 0 (take (firstPlace byte text) text)
 
 abbrev pub textAfter : ℕ → List ℕ → List ℕ
 textAfter byte text = drop (firstPlace byte text + 1) text
@@ -43,7 +43,7 @@ parts byte (b ∷ t) = cond (eqb b byte) ([] ∷ parts byte t) (longer b (parts 
 -- a table with the numbers that parts spell from a place on, those past its end dropped
 unfoldable pub setNumbers : List ℕ → ℕ → List (List ℕ) → List ℕ
 setNumbers table i [] = table
-setNumbers table i (part ∷ rest) = setNumbers (set table i (spelled 0 part % 4294967296)) (i + 1) rest
+setNumbers table i (part ∷ rest) = setNumbers (set table i (saturatingDecimal 0 part % 4294967296)) (i + 1) rest
 
 -- the place after a byte that is put at a place of so many, or the same place where that is past the end
 unfoldable pub putPlace : ℕ → ℕ → ℕ

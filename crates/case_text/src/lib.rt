@@ -6,8 +6,8 @@ ghost use Prim.Native.Nat.{_+_, _%_, _≤_, _<_};
 ghost use lib.ListN.{length, getD, take, drop, set};
 ghost use Rattle.kinds.specs.Words.{kindOf};
 ghost use Rattle.kinds.specs.Named.{kindNumber};
-ghost use Rattle.case_text.specs.RowTexts.{recordText, kindField, setRow};
-ghost use Rattle.case_text.specs.Texts.{firstPlace, smaller, pastPlace, spelled, numberBefore, parts, setNumbers, putPlace, putAll, allPlace, figureOf, fourFigures, hexDigit, hexByte, digestStep, digestOf};
+ghost use Rattle.case_text.specs.RowTexts.{recordText, kindField, setRow, EndsKept};
+ghost use Rattle.case_text.specs.Texts.{firstPlace, smaller, pastPlace, saturatingDecimal, numberBefore, parts, setNumbers, putPlace, putAll, allPlace, figureOf, fourFigures, hexDigit, hexByte, digestStep, digestOf};
 
 // The place of the first such byte, or the length.
 pub fn find(text: &[u8], byte: u8) -> usize
@@ -62,7 +62,7 @@ pub fn least(a: usize, b: usize) -> usize
     b
 }
 
-fn digit(b: u8) -> usize
+fn low_four_bits(b: u8) -> usize
     ensures { λ r. ⌜ r ≤ 15 ⌝ }
     ensures { λ r. ⌜ r ≡ b % 16 ⌝ }
 {
@@ -71,7 +71,7 @@ fn digit(b: u8) -> usize
 
 // The number that a text spells; the largest where it spells more, so that a record can hold that one too.
 pub fn decimal(text: &[u8]) -> usize
-    ensures { λ r. ⌜ r ≡ spelled 0 (now (text .entry)) ⌝ }
+    ensures { λ r. ⌜ r ≡ saturatingDecimal 0 (now (text .entry)) ⌝ }
 {
     let mut v: usize = 0;
     let mut i = 0;
@@ -79,7 +79,7 @@ pub fn decimal(text: &[u8]) -> usize
         if 1844674407370955160 < v {
             return 18446744073709551615;
         }
-        v = v * 10 + digit(text[i]);
+        v = v * 10 + low_four_bits(text[i]);
         i += 1;
     }
     v
@@ -187,7 +187,7 @@ pub fn kind(word: &[u8]) -> u32
 
 // The number that a text spells, as the tables hold it.
 pub fn field(text: &[u8]) -> u32
-    ensures { λ r. ⌜ r ≡ spelled 0 (now (text .entry)) % 4294967296 ⌝ }
+    ensures { λ r. ⌜ r ≡ saturatingDecimal 0 (now (text .entry)) % 4294967296 ⌝ }
 {
     (decimal(text) % 4294967296) as u32
 }
@@ -199,7 +199,7 @@ fn number_before(text: &[u8], byte: u8) -> usize
 }
 
 // The record of five numbers, parted by spaces.
-pub fn record_of(text: &[u8]) -> Record
+pub fn read_record(text: &[u8]) -> Record
     ensures { λ r. ⌜ r ≡ recordText (now (text .entry)) ⌝ }
 {
     let rows = after(text, b' ');
@@ -224,7 +224,7 @@ fn set_number(table: &mut [u32], i: usize, number: u32)
 }
 
 // Sets the numbers that a text gives, parted by spaces, and answers how many they are.
-pub fn fill(table: &mut [u32], text: &[u8]) -> usize
+pub fn set_table(table: &mut [u32], text: &[u8]) -> usize
     ensures { λ r. ⌜ r ≡ length (parts 32 (now (text .entry))) ⌝ }
     ensures { λ r. ⌜ now (table .exit) ≡ setNumbers (now (table .entry)) 0 (parts 32 (now (text .entry))) ⌝ }
 {
@@ -241,7 +241,7 @@ pub fn fill(table: &mut [u32], text: &[u8]) -> usize
 }
 
 // The kind of a row by its word or, where it is none, by its number.
-pub fn kind_field(text: &[u8]) -> u32
+pub fn read_kind(text: &[u8]) -> u32
     ensures { λ r. ⌜ r ≡ kindField (now (text .entry)) ⌝ }
 {
     let k = kind(text);
@@ -263,4 +263,16 @@ pub fn set_row(rows: &mut [u32], i: usize, kind: u32, side: u32, end: u32)
     rows[5 * i + 2] = 4294967295;
     rows[5 * i + 3] = 0;
     rows[5 * i + 4] = end;
+}
+
+// The same rows as blocks: a table of which the ends alone are left, since blocks may stand in blocks.
+pub fn as_blocks(rows: &mut [u32])
+    ensures { λ r. ⌜ EndsKept (now (rows .entry)) (now (rows .exit)) ⌝ }
+{
+    let mut at = 0;
+    while 4 < rows.len() - at {
+        rows[at] = 20;
+        rows[at + 1] = 0;
+        at += 5;
+    }
 }

@@ -1,7 +1,7 @@
 -- The ends of the rows that a row stands in, where the rows before it passed the check of their ends: they rise from the
 -- innermost out. From this come the nesting of the whole table and the right to keep the ends of the open rows alone.
 use Prim.Native.Nat.{ℕ, suc, _+_, _≤_, _<_}
-use mathlib.Core.Path.{_≡_, refl, _∙_}
+use mathlib.Core.Path.{_≡_, refl}
 use mathlib.Core.Bool.{Bool, true, false, cond}
 use mathlib.Core.List.{List, [], _∷_}
 use native.Mathlib.Omega.{arith}
@@ -10,7 +10,6 @@ use borrow.Author.Tests.{ltb-true, ltb-false, lt-ltb, le-ltb, leb-true, eqb-true
 use Rattle.table.specs.Rows.{endAt}
 use Rattle.kinds.proofs.Below.{both-true}
 use Rattle.checks.specs.Checks.{endsBefore, above, enclosing, endFits}
-use Rattle.checks.specs.Opened.{closeTo}
 
 -- each end of a list is at least m; the ends rise
 abbrev pub AtLeast : ℕ → List ℕ → Type 0
@@ -21,7 +20,7 @@ abbrev pub Rises : List ℕ → Type 0
 Rises [] = Unit {0}
 Rises (e ∷ es) = AtLeast e es × Rises es
 
-at-least-trans : (m n : ℕ) → m ≤ n → (es : List ℕ) → AtLeast n es → AtLeast m es
+pub at-least-trans : (m n : ℕ) → m ≤ n → (es : List ℕ) → AtLeast n es → AtLeast m es
 at-least-trans m n h [] a = tt
 at-least-trans m n h (e ∷ es) a = (omega (arith, a .0), at-least-trans m n h es (a .1))
 
@@ -54,22 +53,11 @@ above-above i j h (e ∷ es) = go (ltb i e) refl (above-above i j h es)
     go true q ih = rw (q, ih)
     go false q ih = rw (q, ih, le-ltb j e (omega (arith, ltb-false i e q)))
 
--- of ends that rise, those not above i stand in front
-all-above : (i : ℕ) (es : List ℕ) → AtLeast (suc i) es → above i es ≡ es
+-- where all are above i, none is left out
+pub all-above : (i : ℕ) (es : List ℕ) → AtLeast (suc i) es → above i es ≡ es
 unfolding above
 all-above i [] a = refl
 all-above i (e ∷ es) a = rw (lt-ltb i e (omega (arith, a .0)), all-above i es (a .1))
-
-pub close-above : (i : ℕ) (es : List ℕ) → Rises es → closeTo i es ≡ above i es
-unfolding closeTo above
-close-above i [] r = refl
-close-above i (e ∷ es) r = go (leb e i) refl (close-above i es (r .1))
-  where
-    go : (b : Bool) → leb e i ≡ b → closeTo i es ≡ above i es → closeTo i (e ∷ es) ≡ above i (e ∷ es)
-    go true q ih = rw (q, ih, le-ltb i e (leb-true e i q))
-    go false q ih =
-        let l : i < e = borrow.Author.Tests.leb-false e i q in
-        rw (q, lt-ltb i e l, all-above i es (at-least-trans (suc i) e l es (r .0)))
 
 -- an end that fits is at most each end of the rows that it stands in
 pub end-least : (count i end : ℕ) (es : List ℕ) → Rises es → endFits count i end es ≡ true → AtLeast end es
@@ -85,17 +73,19 @@ unfolding endFits
 end-after count i end [] h t = omega (arith, eqb-true end count t)
 end-after count i end (e ∷ es) h t = ltb-true i end (both-true (ltb i end) (leb end e) t .0)
 
--- from a row that fits to the next one
-module _ (rows : List ℕ) (count i : ℕ) (r : Rises (enclosing rows i)) (t : endFits count i (endAt rows i) (enclosing rows i) ≡ true) where
-  rises-with : Rises (endAt rows i ∷ enclosing rows i)
-  rises-with = (end-least count i (endAt rows i) (enclosing rows i) r t, r)
-
+-- what encloses the next row
+module _ (rows : List ℕ) (i : ℕ) where
   with-above : above (i + 1) (endAt rows i ∷ enclosing rows i) ≡ enclosing rows (i + 1)
   unfolding enclosing endsBefore above
   with-above = rw (native.Mathlib.Numerals.add-one, above-above i (suc i) (omega arith) (endsBefore rows i))
 
-  pub rises-next : Rises (enclosing rows (i + 1))
-  rises-next = rw with-above at (rises-above (i + 1) (endAt rows i ∷ enclosing rows i) rises-with)
+  pub enclosing-same : endAt rows i ≤ i + 1 → above (i + 1) (enclosing rows i) ≡ enclosing rows (i + 1)
+  unfolding above
+  enclosing-same h = rw (le-ltb (i + 1) (endAt rows i) h) at with-above
 
-  pub close-next : closeTo (i + 1) (endAt rows i ∷ enclosing rows i) ≡ enclosing rows (i + 1)
-  close-next = close-above (i + 1) (endAt rows i ∷ enclosing rows i) rises-with ∙ with-above
+  pub enclosing-more : i + 1 < endAt rows i → AtLeast (endAt rows i) (enclosing rows i) → endAt rows i ∷ enclosing rows i ≡ enclosing rows (i + 1)
+  unfolding above
+  enclosing-more h a = rw (lt-ltb (i + 1) (endAt rows i) h, all-above (i + 1) (enclosing rows i) (at-least-trans (suc (i + 1)) (endAt rows i) h (enclosing rows i) a)) at with-above
+
+  pub rises-next : (count : ℕ) → Rises (enclosing rows i) → endFits count i (endAt rows i) (enclosing rows i) ≡ true → Rises (enclosing rows (i + 1))
+  rises-next count r t = rw with-above at (rises-above (i + 1) (endAt rows i ∷ enclosing rows i) (end-least count i (endAt rows i) (enclosing rows i) r t, r))

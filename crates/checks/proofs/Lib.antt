@@ -2,9 +2,15 @@ pub mod Rows
 pub mod Room
 pub mod FieldLaws
 pub mod Enclosing
-pub mod Kept
 pub mod Nest
+pub mod Kept
+pub mod OneRow
+pub mod Items
+pub mod Placing
 pub mod Passed
+pub mod Known
+pub mod Walking
+pub mod Whole
 pub mod Listing
 pub mod Places
 pub mod Same

@@ -14,19 +14,19 @@ use borrow.Author.Tests.{ltb-true, ltb-false, lt-ltb, le-ltb, leb-true, le-leb, 
 use Rattle.table.specs.Rows.{endAt, Nested}
 use Rattle.checks.specs.declared.Checked.{Checked}
 use Rattle.checks.specs.declared.Checked.the-variants.{Passed, Refused}
-use Rattle.checks.specs.declared.Fault.the-variants.{WrongEnd, TooDeep}
-use Rattle.checks.specs.Held.{Held}
+use Rattle.refusals.specs.declared.Refusal.the-variants.{WrongEnd, TooDeep}
 use Rattle.checks.specs.Checks.{whenHeld, endsBefore, above, enclosing, endFits, depthAt, endsAt, endsOf}
+use Rattle.checks.specs.Steps.{Held}
 use Rattle.checks.proofs.Rows.{never, all-pass, pass-all}
 use Rattle.checks.proofs.Room.{passed-held, passed-found, holds-true}
 use Rattle.checks.proofs.Enclosing.{Rises, AtLeast, rises-next, end-least, end-after}
 
 -- what a row that passed says
-record RightEnd (rows : List ℕ) (count i : ℕ) : Type 0 where
-  fits : endFits count i (endAt rows i) (enclosing rows i) ≡ true
-  shallow : depthAt rows i ≤ 100
+pub record RightEnd (rows : List ℕ) (count i : ℕ) : Type 0 where
+  pub fits : endFits count i (endAt rows i) (enclosing rows i) ≡ true
+  pub shallow : depthAt rows i ≤ 100
 
-right-end : (rows : List ℕ) (count i : ℕ) → endsAt rows count i ≡ Passed → RightEnd rows count i
+pub right-end : (rows : List ℕ) (count i : ℕ) → endsAt rows count i ≡ Passed → RightEnd rows count i
 unfolding endsAt
 right-end rows count i = go (endFits count i (endAt rows i) (enclosing rows i)) (leb (depthAt rows i) 100) refl refl
   where
@@ -39,46 +39,47 @@ right-end rows count i = go (endFits count i (endAt rows i) (enclosing rows i)) 
     go true false p q e = never e
     go false b p q e = never e
 
-module _ (rows : List ℕ) (count : ℕ) (right : (i : ℕ) → i < count → RightEnd rows count i) where
-  rises-at : (i : ℕ) → i ≤ count → Rises (enclosing rows i)
+-- of the rows before row n, where all of them passed
+module _ (rows : List ℕ) (count n : ℕ) (few : n ≤ count) (right : (i : ℕ) → i < n → RightEnd rows count i) where
+  pub rises-at : (i : ℕ) → i ≤ n → Rises (enclosing rows i)
   unfolding enclosing endsBefore above
   rises-at zero h = tt
-  rises-at (suc i) h = rw add-one at (rises-next rows count i (rises-at i (omega arith)) (right i h .fits))
+  rises-at (suc i) h = rw add-one at (rises-next rows i count (rises-at i (omega arith)) (right i h .fits))
 
   -- the end of an earlier row, if above j, is one of those that enclose
-  among : (m j n i : ℕ) → AtLeast m (above j (endsBefore rows n)) → i < n → j < endAt rows i → m ≤ endAt rows i
+  among : (m j k i : ℕ) → AtLeast m (above j (endsBefore rows k)) → i < k → j < endAt rows i → m ≤ endAt rows i
   unfolding endsBefore above
   among m j zero i a h l = absurd (omega arith)
-  among m j (suc n) i a h l =
+  among m j (suc k) i a h l =
       ⊎-elim
-      (λ (e : i ≡ n). let a′ : AtLeast m (endAt rows n ∷ above j (endsBefore rows n)) = rw (lt-ltb j (endAt rows n) (rw e at l)) at a in rw e (a′ .0))
-      (λ (h′ : i < n). among m j n i (rest (ltb j (endAt rows n)) a) h′ l)
+      (λ (e : i ≡ k). let a′ : AtLeast m (endAt rows k ∷ above j (endsBefore rows k)) = rw (lt-ltb j (endAt rows k) (rw e at l)) at a in rw e (a′ .0))
+      (λ (h′ : i < k). among m j k i (rest (ltb j (endAt rows k)) a) h′ l)
       (eq-or-lt-of-le (le-of-suc-le-suc h))
     where
-      rest : (b : Bool) → AtLeast m (cond b (endAt rows n ∷ above j (endsBefore rows n)) (above j (endsBefore rows n))) → AtLeast m (above j (endsBefore rows n))
+      rest : (b : Bool) → AtLeast m (cond b (endAt rows k ∷ above j (endsBefore rows k)) (above j (endsBefore rows k))) → AtLeast m (above j (endsBefore rows k))
       rest true a = a .1
       rest false a = a
 
-  nests : (i j : ℕ) → j < count → i < j → j < endAt rows i → endAt rows j ≤ endAt rows i
+  nests : (i j : ℕ) → j < n → i < j → j < endAt rows i → endAt rows j ≤ endAt rows i
   unfolding enclosing
   nests i j h l u = among (endAt rows j) j j i (end-least count j (endAt rows j) (enclosing rows j) (rises-at j (omega arith)) (right j h .fits)) l u
 
-  root : 0 < count → endAt rows 0 ≡ count
+  pub root : 0 < n → endAt rows 0 ≡ count
   unfolding enclosing endsBefore above endFits
   root h = eqb-true (endAt rows 0) count (right 0 h .fits)
 
-  within : (i : ℕ) → i < count → endAt rows i ≤ count
+  pub within : (i : ℕ) → i < n → endAt rows i ≤ count
   within zero h = omega (arith, root h)
   within (suc i) h = let r : endAt rows 0 ≡ count = root (omega arith) in omega (arith, nests 0 (suc i) h (omega arith) (omega arith))
 
-  nested-by : 0 < count → 5 * count ≤ length rows → Nested rows 0 count
-  nested-by p room = record {
-    ordered = omega arith;
-    held = room;
-    after = λ i a h. end-after count i (endAt rows i) (enclosing rows i) h (right i h .fits);
-    within = λ i a h. within i h;
-    nests = λ i j a h l u. nests i j (omega (arith, within i h)) l u;
-  }
+nested-by : (rows : List ℕ) (count : ℕ) → ((i : ℕ) → i < count → RightEnd rows count i) → 0 < count → 5 * count ≤ length rows → Nested rows 0 count
+nested-by rows count right p room = record {
+  ordered = omega arith;
+  held = room;
+  after = λ i a h. end-after count i (endAt rows i) (enclosing rows i) h (right i h .fits);
+  within = λ i a h. within rows count count (omega arith) right i h;
+  nests = λ i j a h l u. nests rows count count (omega arith) right i j (omega (arith, within rows count count (omega arith) right i h)) l u;
+}
 
 -- the ends of a table, as the laws of its tree want them
 pub record RightEnds (rows : List ℕ) (count : ℕ) : Type 0 where
@@ -95,19 +96,19 @@ ends-passed rows count r q p =
     record {
       held = h;
       nested = nested-by rows count right (h .some) (h .room);
-      root = root rows count right (h .some);
+      root = root rows count count (omega arith) right (h .some);
       shallow = λ i l. right i l .shallow;
     }
 
 -- "the row it stands in: the last earlier row whose end is above this number", here of the rows below n, with its end
-record LastAbove (rows : List ℕ) (i n e : ℕ) : Type 0 where
-  row : ℕ
-  earlier : row < n
-  ends : endAt rows row ≡ e
-  above : i < e
-  last : (k : ℕ) → row < k → k < n → endAt rows k ≤ i
+pub record LastAbove (rows : List ℕ) (i n e : ℕ) : Type 0 where
+  pub row : ℕ
+  pub earlier : row < n
+  pub ends : endAt rows row ≡ e
+  pub above : i < e
+  pub last : (k : ℕ) → row < k → k < n → endAt rows k ≤ i
 
-last-above : (rows : List ℕ) (i n e : ℕ) (es : List ℕ) → above i (endsBefore rows n) ≡ e ∷ es → LastAbove rows i n e
+pub last-above : (rows : List ℕ) (i n e : ℕ) (es : List ℕ) → above i (endsBefore rows n) ≡ e ∷ es → LastAbove rows i n e
 unfolding above endsBefore
 last-above rows i zero e es q = absurd (let z : _≡_ {A = ℕ} 0 1 = cc in omega arith)
 last-above rows i (suc n) e es q = go (ltb i (endAt rows n)) refl (last-above rows i n e es)
@@ -163,7 +164,7 @@ unfolding depthAt enclosing above endsBefore
 root-depth rows = refl
 
 -- a row that nothing encloses: no earlier row ends above it
-none-above : (rows : List ℕ) (i n : ℕ) → above i (endsBefore rows n) ≡ [] → (k : ℕ) → k < n → endAt rows k ≤ i
+pub none-above : (rows : List ℕ) (i n : ℕ) → above i (endsBefore rows n) ≡ [] → (k : ℕ) → k < n → endAt rows k ≤ i
 unfolding above endsBefore
 none-above rows i zero q k h = absurd (omega arith)
 none-above rows i (suc n) q k h = go (ltb i (endAt rows n)) refl (none-above rows i n)

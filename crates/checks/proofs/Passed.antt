@@ -1,4 +1,5 @@
--- A table passes the check of fields, or that of children, exactly where it is so at every row. (Of ends: Nest.)
+-- A table passes the check of fields, or that of children, exactly where it is so at every row (of ends: Nest), and the whole check exactly where it
+-- passes both.
 use Prim.Native.Nat.{ℕ, _<_}
 use mathlib.Core.Path.{_≡_, refl, sym, _∙_}
 use mathlib.Core.Bool.{Bool, true, false, cond}
@@ -8,27 +9,27 @@ use borrow.Author.Tests.{ltb-true, lt-ltb}
 use Rattle.table.specs.Rows.{kindAt, sideAt}
 use Rattle.kinds.specs.Kinds.{S, name-number, entry, isKind, inClass, sideFits}
 use Rattle.kinds.proofs.Below.{both-true}
-use Rattle.checks.specs.declared.Fault.{Fault}
-use Rattle.checks.specs.declared.Fault.the-variants.{UnknownKind, WrongSide, WrongChildren}
+use Rattle.refusals.specs.declared.Refusal.{Refusal}
+use Rattle.refusals.specs.declared.Refusal.the-variants.{UnknownKind, WrongSide, WrongChildren}
 use Rattle.checks.specs.declared.Checked.{Checked}
 use Rattle.checks.specs.declared.Checked.the-variants.{Passed, Refused}
-use Rattle.checks.specs.Held.{Held}
-use Rattle.checks.specs.Checks.{whenHeld, firstFrom, fieldsAt, fieldsOf, endsOf, childrenFit, childrenAt, rootAt, childrenOf}
+use Rattle.checks.specs.Steps.{Held}
+use Rattle.checks.specs.Checks.{whenHeld, firstFrom, fieldsAt, fieldsOf, endsOf, childrenFit, childrenAt, rootAt, childrenOf, checkedRows}
 use Rattle.checks.proofs.Rows.{never, both-pass, all-pass, pass-all}
 use Rattle.checks.proofs.Room.{holds-true, passed-held, passed-found}
 use Rattle.checks.proofs.Nest.{RightEnds, ends-passed, ends-pass}
 
 -- a test that is refused or passes, and passes
-test-passed : (b : Bool) (fault : Fault) (row : ℕ) → cond b Passed (Refused fault row) ≡ Passed → b ≡ true
-test-passed true fault row e = refl
-test-passed false fault row e = never e
+test-passed : (b : Bool) (refusal : Refusal) (row : ℕ) → cond b Passed (Refused refusal row) ≡ Passed → b ≡ true
+test-passed true refusal row e = refl
+test-passed false refusal row e = never e
 
 pub record RightFields (rows : List ℕ) (count names : ℕ) : Type 0 where
   pub held : Held rows count
   pub known : (i : ℕ) → i < count → kindAt rows i < 66
   pub sides : (i : ℕ) → i < count → sideFits (entry (kindAt rows i) .sides) names (sideAt rows i) ≡ true
 
-fields-at : (rows : List ℕ) (names i : ℕ) → fieldsAt rows names i ≡ Passed → (kindAt rows i < 66) × (sideFits (entry (kindAt rows i) .sides) names (sideAt rows i) ≡ true)
+pub fields-at : (rows : List ℕ) (names i : ℕ) → fieldsAt rows names i ≡ Passed → (kindAt rows i < 66) × (sideFits (entry (kindAt rows i) .sides) names (sideAt rows i) ≡ true)
 unfolding fieldsAt isKind
 fields-at rows names i e = go (ltb (kindAt rows i) 66) refl e
   where
@@ -80,3 +81,24 @@ children-passed rows count r q p =
 pub children-pass : (rows : List ℕ) (count : ℕ) → RightChildren rows count → childrenOf rows count ≡ Passed
 unfolding rootAt childrenAt
 children-pass rows count w = rw (ends-pass rows count (w .ends), w .statement) (pass-all (childrenAt rows) count (λ i h. rw (w .known i h, w .fitting i h)))
+
+-- the whole check
+module _ (rows : List ℕ) (count names : ℕ) where
+  module _ (r : Checked) (q : r ≡ checkedRows rows count names) (p : r ≡ Passed) where
+    both-passed : (fieldsOf rows count names ≡ Passed) × (childrenOf rows count ≡ Passed)
+    unfolding checkedRows
+    both-passed = both-pass (fieldsOf rows count names) (childrenOf rows count) (sym q ∙ p)
+
+    pub checked-fields : RightFields rows count names
+    checked-fields = fields-passed rows count names (fieldsOf rows count names) refl (both-passed .0)
+
+    pub checked-children : RightChildren rows count
+    checked-children = children-passed rows count (childrenOf rows count) refl (both-passed .1)
+
+  -- where the fields are right it is the check of the children
+  pub checked-is : RightFields rows count names → checkedRows rows count names ≡ childrenOf rows count
+  unfolding checkedRows
+  checked-is w = rw (fields-pass rows count names w)
+
+  pub checked-pass : RightFields rows count names → RightChildren rows count → checkedRows rows count names ≡ Passed
+  checked-pass f c = checked-is f ∙ children-pass rows count c

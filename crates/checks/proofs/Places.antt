@@ -8,34 +8,35 @@ use lib.Dec.{leb}
 use Rattle.table.specs.Rows.{kindAt, sideAt, endAt}
 use Rattle.kinds.specs.Kinds.{S, entry, isKind, inClass, sideFits}
 use Rattle.kinds.proofs.Below.{true-not-false}
-use Rattle.checks.specs.declared.Fault.{Fault}
-use Rattle.checks.specs.declared.Fault.the-variants.{NotHeld, UnknownKind, WrongSide, WrongEnd, TooDeep, WrongChildren}
+use Rattle.refusals.specs.declared.Refusal.{Refusal}
+use Rattle.refusals.specs.Refusals.{refusalNumber}
+use Rattle.refusals.specs.declared.Refusal.the-variants.{WrongRecord, UnknownKind, WrongSide, WrongEnd, TooDeep, WrongChildren}
 use Rattle.checks.specs.declared.Checked.{Checked}
 use Rattle.checks.specs.declared.Checked.the-variants.{Passed, Refused}
-use Rattle.checks.specs.Checks.{numberOf, holds, andThen, firstFrom, whenHeld, enclosing, endFits, depthAt, fieldsAt, fieldsOf, endsAt, endsOf, childrenFit, childrenAt, rootAt, childrenOf}
-use Rattle.checks.specs.Held.{Held}
+use Rattle.checks.specs.Checks.{holds, andThen, firstFrom, whenHeld, enclosing, endFits, depthAt, fieldsAt, fieldsOf, endsAt, endsOf, childrenFit, childrenAt, rootAt, childrenOf, checkedRows}
+use Rattle.checks.specs.Steps.{Held}
 use Rattle.checks.proofs.Room.{held-facts, holds-true, passed-held}
 
 -- a refusal, if there is one, is at a row from low to below high, and its number is at most `most`
 pub record Within (low high most : ℕ) (c : Checked) : Type 0 where
-  pub row : (fault : Fault) (row : ℕ) → c ≡ Refused fault row → (low ≤ row) × (row < high)
-  pub number : (fault : Fault) (row : ℕ) → c ≡ Refused fault row → numberOf fault ≤ most
+  pub row : (refusal : Refusal) (row : ℕ) → c ≡ Refused refusal row → (low ≤ row) × (row < high)
+  pub number : (refusal : Refusal) (row : ℕ) → c ≡ Refused refusal row → refusalNumber refusal ≤ most
 
 passes : {low high most : ℕ} → Within low high most Passed
 passes = record {
-  row = λ fault row e. absurd (let z : _≡_ {A = ℕ} 0 1 = cc in omega arith);
-  number = λ fault row e. absurd (let z : _≡_ {A = ℕ} 0 1 = cc in omega arith);
+  row = λ refusal row e. absurd (let z : _≡_ {A = ℕ} 0 1 = cc in omega arith);
+  number = λ refusal row e. absurd (let z : _≡_ {A = ℕ} 0 1 = cc in omega arith);
 }
 
-refuses : {low high most : ℕ} (fault : Fault) (row : ℕ) → low ≤ row → row < high → numberOf fault ≤ most → Within low high most (Refused fault row)
-refuses {most = most} fault row a b c = record {
+refuses : {low high most : ℕ} (refusal : Refusal) (row : ℕ) → low ≤ row → row < high → refusalNumber refusal ≤ most → Within low high most (Refused refusal row)
+refuses {most = most} refusal row a b c = record {
   row = λ f r e. let z : r ≡ row = cc in (omega arith, omega arith);
-  number = λ f r e. let z : fault ≡ f = cc in subst (λ (g : Fault). numberOf g ≤ most) z c;
+  number = λ f r e. let z : refusal ≡ f = cc in subst (λ (g : Refusal). refusalNumber g ≤ most) z c;
 }
 
 -- a range in a wider one
 widen : {low high most : ℕ} {c : Checked} (l h : ℕ) → l ≤ low → high ≤ h → Within low high most c → Within l h most c
-widen l h a b w = record { row = λ fault row e. let p = w .row fault row e in (omega (arith, p .0), omega (arith, p .1)); number = w .number }
+widen l h a b w = record { row = λ refusal row e. let p = w .row refusal row e in (omega (arith, p .0), omega (arith, p .1)); number = w .number }
 
 -- one of two, by a test
 choice : {low high most : ℕ} {x y : Checked} (b : Bool) → (b ≡ true → Within low high most x) → (b ≡ false → Within low high most y) → Within low high most (cond b x y)
@@ -45,7 +46,7 @@ choice false p q = q refl
 -- two checks, the second asked where the first passed
 pub both : {low high most : ℕ} {b : Checked} (a : Checked) → Within low high most a → (a ≡ Passed → Within low high most b) → Within low high most (andThen a b)
 both Passed p q = q refl
-both (Refused fault row) p q = p
+both (Refused refusal row) p q = p
 
 -- where each row's test refuses at that row only, the first refusal of n rows from row i on is at one of them
 first-within : (most : ℕ) (test : ℕ → Checked) (n i : ℕ) → ((k : ℕ) → Within k (k + 1) most (test k)) → Within i (i + n) most (firstFrom test n i)
@@ -57,8 +58,8 @@ first-within most test (suc n) i own =
 
 -- 9 is the largest number of a table that holds its rows, and 22 that of any; its rows are below a number that is not 0
 module _ (rows : List ℕ) (count high most : ℕ) (some : 1 ≤ high) (few : holds rows count ≡ true → count ≤ high) (nine : 9 ≤ most) (unheld : holds rows count ≡ false → 22 ≤ most) where
-  refused-here : (i : ℕ) (fault : Fault) → numberOf fault ≤ 9 → Within i (i + 1) most (Refused fault i)
-  refused-here i fault h = refuses fault i (omega arith) (omega arith) (omega arith)
+  refused-here : (i : ℕ) (refusal : Refusal) → refusalNumber refusal ≤ 9 → Within i (i + 1) most (Refused refusal i)
+  refused-here i refusal h = refuses refusal i (omega arith) (omega arith) (omega arith)
 
   fields-own : (names i : ℕ) → Within i (i + 1) most (fieldsAt rows names i)
   unfolding fieldsAt
@@ -87,7 +88,7 @@ module _ (rows : List ℕ) (count high most : ℕ) (some : 1 ≤ high) (few : ho
 
   held-within : (test : ℕ → Checked) → ((i : ℕ) → Within i (i + 1) most (test i)) → Within 0 high most (whenHeld rows count (firstFrom test count 0))
   unfolding whenHeld
-  held-within test own = choice (holds rows count) (rows-within test own) (λ t. refuses NotHeld 0 (omega arith) (omega arith) (unheld t))
+  held-within test own = choice (holds rows count) (rows-within test own) (λ t. refuses WrongRecord 0 (omega arith) (omega arith) (unheld t))
 
   fields-within : (names : ℕ) → Within 0 high most (fieldsOf rows count names)
   fields-within names = held-within (fieldsAt rows names) (fields-own names)
@@ -98,10 +99,18 @@ module _ (rows : List ℕ) (count high most : ℕ) (some : 1 ≤ high) (few : ho
       (λ p. both (rootAt rows) root-within
       (λ q. rows-within (childrenAt rows) children-own (holds-true rows count (passed-held rows count _ p))))
 
--- a refusal of the check of children is at one of at most 2,000 rows, and at row 0 where the table does not hold its rows
-pub children-row : (rows : List ℕ) (count : ℕ) (r : Checked) (fault : Fault) (row : ℕ) → r ≡ childrenOf rows count → r ≡ Refused fault row → row ≤ 2000
-children-row rows count r fault row q e =
-    omega (arith, children-within rows count 2000 22 (omega arith) (λ t. held-facts rows count t .few) (omega arith) (λ t. omega arith) .row fault row (sym q ∙ e) .1)
+  checked-within : (names : ℕ) → Within 0 high most (checkedRows rows count names)
+  unfolding checkedRows
+  checked-within names = both (fieldsOf rows count names) (fields-within names) (λ p. children-within)
+
+-- a refusal is at one of at most 2,000 rows, and at row 0 where the table does not hold its rows
+pub checked-row : (rows : List ℕ) (count names : ℕ) (r : Checked) (refusal : Refusal) (row : ℕ) → r ≡ checkedRows rows count names → r ≡ Refused refusal row → row ≤ 2000
+checked-row rows count names r refusal row q e =
+    omega (arith, checked-within rows count 2000 22 (omega arith) (λ t. held-facts rows count t .few) (omega arith) (λ t. omega arith) names .row refusal row (sym q ∙ e) .1)
+
+pub children-row : (rows : List ℕ) (count : ℕ) (r : Checked) (refusal : Refusal) (row : ℕ) → r ≡ childrenOf rows count → r ≡ Refused refusal row → row ≤ 2000
+children-row rows count r refusal row q e =
+    omega (arith, children-within rows count 2000 22 (omega arith) (λ t. held-facts rows count t .few) (omega arith) (λ t. omega arith) .row refusal row (sym q ∙ e) .1)
 
 -- of a table that holds its rows, a refusal is 5 to 9, at one of its rows
 module _ (rows : List ℕ) (count : ℕ) (h : Held rows count) where
@@ -113,3 +122,6 @@ module _ (rows : List ℕ) (count : ℕ) (h : Held rows count) where
 
   pub fields-place : (names : ℕ) → Within 0 count 9 (fieldsOf rows count names)
   fields-place = fields-within rows count count 9 (h .some) (λ t. omega arith) (omega arith) not-unheld
+
+  pub checked-place : (names : ℕ) → Within 0 count 9 (checkedRows rows count names)
+  checked-place = checked-within rows count count 9 (h .some) (λ t. omega arith) (omega arith) not-unheld

@@ -1,17 +1,17 @@
 -- A table that holds its rows, as a test and as facts.
 use Prim.Native.Nat.{ℕ, _*_, _≤_, _<_}
-use mathlib.Core.Path.{_≡_, refl, sym, _∙_}
-use mathlib.Core.Bool.{Bool, true, false, cond, not}
+use mathlib.Core.Path.{_≡_, refl}
+use mathlib.Core.Bool.{Bool, true, false, cond}
 use mathlib.Core.List.{List}
 use lib.ListN.{length}
 use lib.Dec.{leb}
-use borrow.Author.Tests.{leb-true, le-leb, lt-leb, not-true, not-false}
+use borrow.Author.Tests.{leb-true, le-leb, lt-leb}
 use Rattle.kinds.proofs.Below.{both-true}
 use Rattle.checks.specs.declared.Checked.{Checked}
 use Rattle.checks.specs.declared.Checked.the-variants.{Passed, Refused}
-use Rattle.checks.specs.declared.Fault.the-variants.{NotHeld}
-use Rattle.checks.specs.Held.{Held}
+use Rattle.refusals.specs.declared.Refusal.the-variants.{WrongRecord}
 use Rattle.checks.specs.Checks.{holds, whenHeld}
+use Rattle.checks.specs.Steps.{Held}
 use Rattle.checks.proofs.Rows.{never}
 
 pub held-facts : (rows : List ℕ) (count : ℕ) → holds rows count ≡ true → Held rows count
@@ -38,18 +38,7 @@ module _ (rows : List ℕ) (count : ℕ) where
   unfolding holds
   holds-room l h = rw (le-leb 1 count l, le-leb count 2000 h)
 
-  -- what a caller of `held` knows
-  module _ (r : Bool) (e : r ≡ holds rows count) where
-    pub held-told : not r ≡ false → Held rows count
-    held-told n = held-facts rows count (sym e ∙ not-false r n)
-
-    pub not-held : (found : Checked) → not r ≡ true → Refused NotHeld 0 ≡ whenHeld rows count found
-    unfolding whenHeld
-    not-held found n = rw (← e, not-true r n)
-
-    pub found-held : (found out : Checked) → not r ≡ false → out ≡ found → out ≡ whenHeld rows count found
-    unfolding whenHeld
-    found-held found out n o = rw (← e, not-false r n) o
+pub ruleset answers = (holds-none, holds-many, holds-room)
 
 -- a check that passed read a table that holds its rows, and found nothing
 module _ (rows : List ℕ) (count : ℕ) (found : Checked) (e : whenHeld rows count found ≡ Passed) where
@@ -57,7 +46,7 @@ module _ (rows : List ℕ) (count : ℕ) (found : Checked) (e : whenHeld rows co
   unfolding whenHeld
   told = go (holds rows count) e
     where
-      go : (b : Bool) → cond b found (Refused NotHeld 0) ≡ Passed → b ≡ true
+      go : (b : Bool) → cond b found (Refused WrongRecord 0) ≡ Passed → b ≡ true
       go true p = refl
       go false p = never p
 
@@ -67,5 +56,3 @@ module _ (rows : List ℕ) (count : ℕ) (found : Checked) (e : whenHeld rows co
   pub passed-found : found ≡ Passed
   unfolding whenHeld
   passed-found = rw told at e
-
-pub ruleset answers = (holds-none, holds-many, holds-room, held-told, not-held, found-held)

@@ -1,54 +1,53 @@
--- A check that goes over the rows: what its loop keeps, and what a check that passed says of each row.
+-- A check that goes over the rows, one by one: what its loop keeps, and that it passes exactly where it passes at each row.
+-- The number of rows that are left falls.
 use Prim.Native.Nat.{ℕ, zero, suc, _+_, _-_, _≤_, _<_}
-use mathlib.Core.Path.{_≡_, refl, sym, _∙_}
-use mathlib.Core.Bool.{Bool, true, false, cond, not}
+use mathlib.Core.Path.{_≡_, refl, _∙_}
 use native.Mathlib.Omega.{arith}
-use borrow.Author.Tests.{not-true, not-false}
-use Rattle.checks.specs.declared.Fault.{Fault}
+use native.Mathlib.Numerals.{add-one}
+use Rattle.refusals.specs.declared.Refusal.{Refusal}
 use Rattle.checks.specs.declared.Checked.{Checked}
 use Rattle.checks.specs.declared.Checked.the-variants.{Passed, Refused}
 use Rattle.checks.specs.Checks.{andThen, firstFrom}
 
 -- a refusal does not pass
-pub never : {A : Type 0} {fault : Fault} {row : ℕ} → Refused fault row ≡ Passed → A
+pub never : {A : Type 0} {refusal : Refusal} {row : ℕ} → Refused refusal row ≡ Passed → A
 never e = absurd (let z : _≡_ {A = ℕ} 0 1 = cc in omega arith)
 
--- the loop has come to row i: the rows that are left give what all of them give
-pub record Checking (test : ℕ → Checked) (count i : ℕ) : Type 0 where
-  pub upto : i ≤ count
-  pub same : firstFrom test count 0 ≡ firstFrom test (count - i) i
+-- a check of the rows from `from` on has come to row i: the rows that are left give what all of them give
+pub record Checking (test : ℕ → Checked) (count from i : ℕ) : Type 0 where
+  pub same : firstFrom test (count - from) from ≡ firstFrom test (count - i) i
 
-pub checking-start : (test : ℕ → Checked) (count : ℕ) → Checking test count 0
-checking-start test count = record { upto = omega arith; same = (let z : count - 0 ≡ count = omega arith in rw z) }
+pub checking-start : (test : ℕ → Checked) (count from : ℕ) → Checking test count from from
+checking-start test count from = record { same = refl }
 
-module _ {test : ℕ → Checked} {count i : ℕ} (w : Checking test count i) where
-  pub checking-done : count ≤ i → Passed ≡ firstFrom test count 0
+module _ {test : ℕ → Checked} {count from i : ℕ} (w : Checking test count from i) where
+  pub checking-done : count ≤ i → firstFrom test (count - from) from ≡ Passed
   unfolding firstFrom
-  checking-done h = let z : count - i ≡ 0 = omega arith in sym (w .same ∙ rw z)
+  checking-done h = let z : count - i ≡ 0 = omega arith in w .same ∙ rw z
 
   module _ (h : i < count) where
-    step : firstFrom test count 0 ≡ andThen (test i) (firstFrom test (count - (i + 1)) (i + 1))
+    pub checking-step : firstFrom test (count - from) from ≡ andThen (test i) (firstFrom test (count - (i + 1)) (i + 1))
     unfolding firstFrom
-    step = let z : count - i ≡ suc (count - (i + 1)) = omega arith in w .same ∙ rw z
+    checking-step = let z : count - i ≡ suc (count - (i + 1)) = omega arith in w .same ∙ rw z
 
-    pub checking-stop : (fault : Fault) (row : ℕ) → test i ≡ Refused fault row → Refused fault row ≡ firstFrom test count 0
-    checking-stop fault row e = sym (step ∙ rw e)
+    pub checking-stop : (refusal : Refusal) (row : ℕ) → test i ≡ Refused refusal row → firstFrom test (count - from) from ≡ Refused refusal row
+    checking-stop refusal row e = checking-step ∙ rw e
 
-    pub checking-next : test i ≡ Passed → Checking test count (i + 1)
-    checking-next e = record { upto = omega arith; same = step ∙ rw e }
+    pub checking-next : test i ≡ Passed → Checking test count from (i + 1)
+    checking-next e = record { same = checking-step ∙ rw e }
 
-    -- a row that is refused where a test fails
-    module _ (fault : Fault) (r : Bool) (e : test i ≡ cond r Passed (Refused fault i)) where
-      pub checking-fails : not r ≡ true → Refused fault i ≡ firstFrom test count 0
-      checking-fails n = checking-stop fault i (e ∙ rw (not-true r n))
+pub from-zero : (test : ℕ → Checked) (count : ℕ) → firstFrom test count 0 ≡ firstFrom test (count - 0) 0
+from-zero test count = let z : count - 0 ≡ count = omega arith in rw z
 
-      pub checking-holds : not r ≡ false → Checking test count (i + 1)
-      checking-holds n = checking-next (e ∙ rw (not-false r n))
+-- the rows before row n pass
+pub checking-upto : (test : ℕ → Checked) (count n : ℕ) → n ≤ count → ((i : ℕ) → i < n → test i ≡ Passed) → Checking test count 0 n
+checking-upto test count zero h t = checking-start test count 0
+checking-upto test count (suc n) h t = rw add-one at (checking-next (checking-upto test count n (omega arith) (λ i l. t i (omega arith))) h (t n (omega arith)))
 
 -- two checks that passed, one after the other
 pub both-pass : (a b : Checked) → andThen a b ≡ Passed → (a ≡ Passed) × (b ≡ Passed)
 both-pass Passed b e = (refl, e)
-both-pass (Refused fault row) b e = never e
+both-pass (Refused refusal row) b e = never e
 
 all-from : (test : ℕ → Checked) (n i : ℕ) → firstFrom test n i ≡ Passed → (k : ℕ) → i ≤ k → k < i + n → test k ≡ Passed
 unfolding firstFrom

@@ -63,7 +63,7 @@ module _ (rows others : List ℕ) (count : ℕ) (h : 5 * count ≤ length rows) 
   children-same = ap (λ (c : Checked). andThen c (andThen (rootAt rows) (firstFrom (childrenAt rows) count 0))) ends-same ∙ go (endsOf others count) refl
     where
       go : (c : Checked) → endsOf others count ≡ c → andThen c (andThen (rootAt rows) (firstFrom (childrenAt rows) count 0)) ≡ andThen c (andThen (rootAt others) (firstFrom (childrenAt others) count 0))
-      go (Refused fault row) e = refl
+      go (Refused refusal row) e = refl
       go Passed e =
           let w = ends-passed rows count (endsOf rows count) refl (ends-same ∙ e) in
           rw (root-same (w .held .some), first-same (childrenAt rows) (childrenAt others) count 0 (λ i a b. child-same (w .nested) i (omega arith)))

@@ -8,19 +8,9 @@ use lib.ListN.{length}
 use Rattle.table.specs.Rows.{kindAt, sideAt, endAt, Forest, tree}
 use Rattle.table.specs.Fold.{Alg, fold}
 use Rattle.kinds.specs.Kinds.{S, entry, isKind, inClass, sideFits, fits}
-use Rattle.checks.specs.declared.Fault.{Fault}
-use Rattle.checks.specs.declared.Fault.the-variants.{NotHeld, UnknownKind, WrongSide, WrongEnd, TooDeep, WrongChildren}
+use Rattle.refusals.specs.declared.Refusal.the-variants.{WrongRecord, UnknownKind, WrongSide, WrongEnd, TooDeep, WrongChildren}
 use Rattle.checks.specs.declared.Checked.{Checked}
 use Rattle.checks.specs.declared.Checked.the-variants.{Passed, Refused}
-
--- document 01's number of each fault. A table that cannot hold its rows is 22 for asking; loading has answered 21 before.
-abbrev pub numberOf : Fault → ℕ
-numberOf NotHeld = 22
-numberOf UnknownKind = 5
-numberOf WrongSide = 6
-numberOf WrongEnd = 7
-numberOf TooDeep = 8
-numberOf WrongChildren = 9
 
 -- "rows outside 1..2,000"; "fewer than 5 numbers a row"
 unfoldable pub holds : List ℕ → ℕ → Bool
@@ -29,16 +19,16 @@ holds rows count = leb 1 count && (leb count 2000 && leb (5 * count) (length row
 -- two checks, one after the other: the second is asked where the first passed
 abbrev pub andThen : Checked → Checked → Checked
 andThen Passed next = next
-andThen (Refused fault row) next = Refused fault row
+andThen (Refused refusal row) next = Refused refusal row
 
 -- "in row order": the first refusal of the n rows from row i on
 unfoldable pub firstFrom : (ℕ → Checked) → ℕ → ℕ → Checked
 firstFrom test zero i = Passed
 firstFrom test (suc n) i = andThen (test i) (firstFrom test n (i + 1))
 
--- what is found in a table that holds its rows; no other is read
+-- what is found in a table that holds its rows; no other is read, and is 22, "tables too short for it"
 unfoldable pub whenHeld : List ℕ → ℕ → Checked → Checked
-whenHeld rows count found = cond (holds rows count) found (Refused NotHeld 0)
+whenHeld rows count found = cond (holds rows count) found (Refused WrongRecord 0)
 
 -- "5: unknown kind", here a kind number above 65; "6: side number not allowed for the kind". lo and hi are free.
 unfoldable pub fieldsAt : List ℕ → ℕ → ℕ → Checked
@@ -109,3 +99,7 @@ rootAt rows = cond (inClass S (kindAt rows 0)) Passed (Refused WrongChildren 0)
 -- the children, after the ends: "7 and 8 in row order, 7 before 8; then 9 in row order". Only rows whose ends nest have children, so the ends come first.
 abbrev pub childrenOf : List ℕ → ℕ → Checked
 childrenOf rows count = andThen (endsOf rows count) (andThen (rootAt rows) (firstFrom (childrenAt rows) count 0))
+
+-- "fields, ends and depth, children, each in row order": the whole check of a table
+unfoldable pub checkedRows : List ℕ → ℕ → ℕ → Checked
+checkedRows rows count names = andThen (fieldsOf rows count names) (childrenOf rows count)

@@ -1,3 +1,2 @@
-pub mod Held
 pub mod Checks
-pub mod Opened
+pub mod Steps

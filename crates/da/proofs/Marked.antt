@@ -26,7 +26,7 @@ use Rattle.da.specs.declared.DaOut.the-variants.{Falls, Jumps}
 use Rattle.da.specs.declared.DaResult.{DaResult}
 use Rattle.da.specs.declared.DaResult.the-variants.{Ok, Err}
 use Rattle.da.specs.Outcome.{State, unwritten, written}
-use Rattle.da.specs.Walk.{daCtx, heldAt, walkAt, daStmt}
+use Rattle.da.specs.Walk.{daCtx, heldFactsAt, walkAt, daStmt}
 
 -- Rows that the facts about paths have no name for: `c`, `y=1;`, an if without else, and others
 
@@ -390,7 +390,7 @@ cases = worked ++ traps ++ assignments ++ nonblockings ++ conditions ++ bodies +
 
 -- The joint fact: each statement is walked to what is expected of it.
 pub marked : map answer cases ≡ map (λ t. t .expected) cases
-unfolding size spread fold heldAt walkAt factsAt exprEffectAt unaryForm binaryForm callForm cannotEscapeAt waitingWords isOneOf letsTimePass advancesAt stmtClass stmtClassIn stmtWords exprClass taskEffect numbered kindNumber kindOf placeFrom kinds same isNamed begins count segments isLocal isMarked isLoopJump inRowOrder passedOver seenBelow seenAt seen some refers stmtNoRef every
+unfolding size spread fold heldFactsAt walkAt factsAt exprEffectAt unaryForm binaryForm callForm cannotEscapeAt waitingWords isOneOf letsTimePass advancesAt stmtClass stmtClassIn stmtWords exprClass taskEffect numbered kindNumber kindOf placeFrom kinds same isNamed begins count segments isLocal isMarked isLoopJump inRowOrder passedOver seenBelow seenAt seen some refers stmtNoRef every
 marked = refl
 
 -- "9: children that don't fit the kind": these statements' do, at every row

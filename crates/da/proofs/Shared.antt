@@ -1,5 +1,5 @@
--- A shared net only adds give-ups: what is accepted with sole 0 has the same answer with sole 1. Reason 1 is the only one that asks
--- for `sole`.
+-- A shared net only adds give-ups: what is accepted with sole 0 has the same answer with sole 1. Reason 1 is the only one that asks for
+-- `sole`. By induction over the tree: a row whose children agree agrees.
 use mathlib.Core.Path.{_≡_, refl}
 use mathlib.Core.Bool.{Bool, true, false, cond, _&&_, not}
 use mathlib.Core.List.{List, [], _∷_}
@@ -10,7 +10,7 @@ use Rattle.table.specs.Fold.{nth, Pairwise, no-pair, pair}
 use Rattle.table.proofs.Fold.{fold-related, related-at, related-tail}
 use Rattle.kinds.specs.declared.StmtClass.{StmtClass}
 use Rattle.kinds.specs.declared.StmtClass.the-variants.{Absent, Match, Default, Decl, Blocking, Nonblocking, If, Return, Case, For, While, Repeat, Forever, Block, Fork, Systask, Task, Delayctrl, Eventctrl, Wait, Disable, Null, Unmodelled, NoStmt}
-use Rattle.kinds.specs.Named.{stmtClass}
+use Rattle.kinds.specs.Named.{stmtClass, hasDefault}
 use Rattle.expr_effect.specs.Law.{ExprFacts, noFacts}
 use Rattle.da.specs.declared.DaOut.{DaOut}
 use Rattle.da.specs.declared.DaOut.the-variants.{Falls, Jumps}
@@ -18,7 +18,7 @@ use Rattle.da.specs.declared.DaGiveUp.{DaGiveUp}
 use Rattle.da.specs.declared.DaResult.{DaResult}
 use Rattle.da.specs.declared.DaResult.the-variants.{Ok, Err}
 use Rattle.da.specs.Outcome.{State, isWritten, gains, state, merge, _▷_, goOn}
-use Rattle.da.specs.Walk.{DaCtx, daCtx, Walk, StmtRow, exprReads, exprOutWrites, unlessRead, unlessOneRead, evaluated, once, stmt, noWalk, elseFrom, ifElse, block, arms, hasDefault, caseOf, rounds, whileTrue, referring, walkOf, walkAt, walks, daStmt}
+use Rattle.da.specs.Walk.{DaCtx, daCtx, Walk, StmtRow, exprReads, exprOutWrites, unlessRead, unlessOneRead, evaluated, gainsWhen, stmt, noWalk, elseFrom, ifElse, block, arms, caseOf, rounds, whileTrue, referring, walkOf, walkAt, walks, daStmt}
 
 -- the first gives up, or both answer the same
 pub data AnswersAgree : DaResult → DaResult → Type 0 where
@@ -93,8 +93,8 @@ agree-else {e} h after inElse = rw (h .absent) (agree-cond (e .isAbsent) same (h
 agree-if : (c : ExprFacts) {t t' e e' : Walk} → WalksAgree t t' → WalksAgree e e' → (a : State) → AnswersAgree (ifElse c t e a) (ifElse c t' e' a)
 agree-if c h k =
     agree-evaluated c λ after.
-    then (h .from (once c true after)) λ aThen.
-    then (agree-else k after (once c false after)) λ aElse.
+    then (h .from (gainsWhen c true after)) λ aThen.
+    then (agree-else k after (gainsWhen c false after)) λ aElse.
     same {r = Ok (merge aThen aElse)}
 
 agree-block : {ws vs : List Walk} → AllAgree ws vs → (a : State) → AnswersAgree (block ws a) (block vs a)
@@ -107,14 +107,14 @@ agree-arms no-pair after all = same
 agree-arms (pair {x = w} h hs) after all = rw (h .labels) (agree-reads (w .labels) after (then (h .from after) λ arm. agree-arms hs after (merge all arm)))
 
 -- after the arms: a default stands in both, or in neither
-same-default : {ws vs : List Walk} → AllAgree ws vs → hasDefault vs ≡ hasDefault ws
+same-default : {ws vs : List Walk} → AllAgree ws vs → hasDefault (λ w. w .isDefault) vs ≡ hasDefault (λ w. w .isDefault) ws
 same-default no-pair = refl
 same-default (pair h hs) = rw (h .default, same-default hs)
 
 agree-join : {ws vs : List Walk}
     → AllAgree ws vs
     → (after : State) (all : DaOut)
-    → AnswersAgree (cond (hasDefault ws && not (isWritten after)) (Ok all) (Ok (Falls after))) (cond (hasDefault vs && not (isWritten after)) (Ok all) (Ok (Falls after)))
+    → AnswersAgree (cond (hasDefault (λ w. w .isDefault) ws && not (isWritten after)) (Ok all) (Ok (Falls after))) (cond (hasDefault (λ w. w .isDefault) vs && not (isWritten after)) (Ok all) (Ok (Falls after)))
 agree-join ps after all = rw (same-default ps) same
 
 agree-case : (c : ExprFacts) {ws vs : List Walk} → AllAgree ws vs → (a : State) → AnswersAgree (caseOf c ws a) (caseOf c vs a)
@@ -133,7 +133,7 @@ agree-while : (r : StmtRow) (cannotEscape : Bool) (c : ExprFacts) {body body' st
     → WalksAgree step step'
     → (a : State)
     → AnswersAgree (whileTrue r cannotEscape c body step a) (whileTrue r cannotEscape c body' step' a)
-agree-while r cannotEscape c h k = agree-evaluated c λ after. agree-rounds r cannotEscape h k after (once c true after)
+agree-while r cannotEscape c h k = agree-evaluated c λ after. agree-rounds r cannotEscape h k after (gainsWhen c true after)
 
 module _ (x : ℕ) (marks : ℕ → Bool) where
   -- one of several writers of the net, and the only one

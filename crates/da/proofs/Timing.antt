@@ -1,5 +1,5 @@
--- The time test asked once. da_stmt asks at every statement whether time can advance in it; where it can in a statement it can in
--- every statement around it, so asking at the outermost alone gives the same answer.
+-- The time test asked once. da_stmt asks at every statement whether time can advance in it; where it can in a statement it can in every
+-- statement around it, so asking at the outermost alone gives the same answer. By induction over the tree below it.
 use mathlib.Core.Path.{_≡_, refl, ap, _∙_}
 use mathlib.Core.Bool.{Bool, true, false, cond, _&&_, not, and-false}
 use mathlib.Core.List.{List}
@@ -118,13 +118,13 @@ module _ (x : ℕ) (marks : ℕ → Bool) (sole : Bool) where
   asked-first NoStmt r es held ws = refl
 
   -- where time cannot advance, asking changes nothing
-  pub untimed : (f : Forest) → advancesTime f ≡ false → walks asking f ≡ walks notAsking f
+  pub still-unasked : (f : Forest) → advancesTime f ≡ false → walks asking f ≡ walks notAsking f
   unfolding fold walkAt
-  untimed nil h = refl
-  untimed (node k s lo hi cs others) h =
+  still-unasked nil h = refl
+  still-unasked (node k s lo hi cs others) h =
       let still = siblings-still k s lo hi cs others h in
-      let below = untimed cs (below-still k s lo hi cs (still .0)) in
-      rw (below, untimed others (still .1), asked-first, still .0, and-false (isTested (stmtClass k)))
+      let below = still-unasked cs (below-still k s lo hi cs (still .0)) in
+      rw (below, still-unasked others (still .1), asked-first, still .0, and-false (isTested (stmtClass k)))
 
   -- a statement whose children are walked alike, where time cannot advance in it
   row-once : (class : StmtClass) (r : StmtRow) (es : List ExprFacts) (held : List (List ExprFacts)) (ws vs : List Walk) (a : State)
@@ -147,7 +147,7 @@ module _ (x : ℕ) (marks : ℕ → Bool) (sole : Bool) where
       ≡ cond (advancesAt k s lo hi cs (advances cs)) (giveUp 1 lo hi) (daStmt notAsking (node k s lo hi cs others) a)
   unfolding fold walkAt
   time-once k s lo hi cs others a h =
-      row-once (stmtClass k) _ _ _ _ _ a (statement-tested k h) λ still. untimed cs (below-still k s lo hi cs still)
+      row-once (stmtClass k) _ _ _ _ _ a (statement-tested k h) λ still. still-unasked cs (below-still k s lo hi cs still)
 
 -- the same of the Rust's context
 pub asked-once : (x : ℕ) (marks : ℕ → Bool) (sole : Bool) (k s lo hi : ℕ) (cs others : Forest) (a : State)

@@ -1,5 +1,5 @@
--- "once `name` is DEFINITELY ASSIGNED on this path, no later statement can make the flatten diverge": from written, with sole 1, the
--- walk gives up nowhere, and falls written or jumps.
+-- "once `name` is DEFINITELY ASSIGNED on this path, no later statement can make the flatten diverge": from written, with sole 1, the walk
+-- gives up nowhere, and falls written or jumps. By induction over the tree, a class at a time.
 use mathlib.Core.Bool.{Bool, true, false, cond, _&&_, not}
 use mathlib.Core.List.{List, [], _∷_}
 use Prim.Native.Nat.{ℕ, zero, suc}
@@ -7,7 +7,7 @@ use Rattle.table.specs.Rows.{Forest, nil, node}
 use Rattle.table.specs.Fold.{fold, nth, tail}
 use Rattle.kinds.specs.declared.StmtClass.{StmtClass}
 use Rattle.kinds.specs.declared.StmtClass.the-variants.{Absent, Match, Default, Decl, Blocking, Nonblocking, If, Return, Case, For, While, Repeat, Forever, Block, Fork, Systask, Task, Delayctrl, Eventctrl, Wait, Disable, Null, Unmodelled, NoStmt}
-use Rattle.kinds.specs.Named.{stmtClass, taskEffect}
+use Rattle.kinds.specs.Named.{stmtClass, taskEffect, hasDefault}
 use Rattle.expr_effect.specs.Law.{ExprFacts, noFacts}
 use Rattle.da.specs.declared.DaOut.{DaOut}
 use Rattle.da.specs.declared.DaOut.the-variants.{Falls, Jumps}
@@ -16,7 +16,7 @@ use Rattle.da.specs.declared.DaResult.the-variants.{Ok}
 use Rattle.da.specs.declared.CallEffect.{CallEffect}
 use Rattle.da.specs.declared.CallEffect.the-variants.{Inert, Writes, Reads, Unknown}
 use Rattle.da.specs.Outcome.{isWritten, written, merge, _▷_, Accepted}
-use Rattle.da.specs.Walk.{DaCtx, daCtx, Walk, StmtRow, noWalk, unlessOneRead, ifElse, block, arms, hasDefault, caseOf, rounds, callEffect, task, walkOf, walkAt, walks, daStmt}
+use Rattle.da.specs.Walk.{DaCtx, daCtx, Walk, StmtRow, noWalk, unlessOneRead, ifElse, block, arms, caseOf, rounds, callEffect, task, walkOf, walkAt, walks, daStmt}
 
 -- the two answers
 pub data Kept : DaResult → Type 0 where
@@ -81,7 +81,7 @@ kept-arms h (and {w} k ks) = kept-reads (w .labels) (kept-then _ (k .kept) (kept
 -- with a default or without
 kept-case : (e : ExprFacts) {ws : List Walk} → AllKeep ws → Kept (caseOf e ws written)
 kept-case e {ws} ks =
-    let b = hasDefault ws && not (isWritten written) in
+    let b = hasDefault (λ w. w .isDefault) ws && not (isWritten written) in
     kept-then _ (kept-arms jumps ks) (kept-cond b falls falls) (kept-cond b jumps falls)
 
 -- whatever the else is, it is walked from written

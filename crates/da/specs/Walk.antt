@@ -7,8 +7,9 @@ use lib.Dec.{eqb}
 use Rattle.table.specs.Rows.{Forest, nil, node}
 use Rattle.table.specs.Fold.{Alg, fold, nth, tail}
 use Rattle.kinds.specs.declared.StmtClass.{StmtClass}
-use Rattle.kinds.specs.declared.StmtClass.the-variants.{Absent, Match, Default, Decl, Blocking, Nonblocking, If, Return, Case, For, While, Repeat, Forever, Block, Fork, Systask, Task, Delayctrl, Eventctrl, Wait, Disable, Null, Unmodelled, NoStmt}
-use Rattle.kinds.specs.Named.{stmtClass, taskEffect}
+use Rattle.kinds.specs.declared.StmtClass.the-variants.{Absent, Match, Default, Decl, Blocking, Nonblocking, If, Return, Case, For, While, Repeat}
+use Rattle.kinds.specs.declared.StmtClass.the-variants.{Forever, Block, Fork, Systask, Task, Delayctrl, Eventctrl, Wait, Disable, Null, Unmodelled, NoStmt}
+use Rattle.kinds.specs.Named.{stmtClass, taskEffect, hasDefault}
 use Rattle.reads.specs.PathRows.{isLoopJump}
 use Rattle.reads.specs.NoRef.{stmtNoRef}
 use Rattle.effect_rules.specs.declared.ExprDa.{ExprDa}
@@ -97,8 +98,8 @@ abbrev pub evaluated : ExprFacts → State → (State → DaResult) → DaResult
 evaluated e a next = unlessRead e (gains (exprOutWrites e) a) (next (gains (exprOutWrites e) a))
 
 -- "after || expr_writes_when(e, .., want)"
-abbrev pub once : ExprFacts → Bool → State → State
-once e want after = gains (writesWhen (e .effects) want) after
+abbrev pub gainsWhen : ExprFacts → Bool → State → State
+gainsWhen e want after = gains (writesWhen (e .effects) want) after
 
 -- Statements
 
@@ -145,8 +146,8 @@ elseFrom e after inElse = cond (e .isAbsent) (Ok (Falls after)) (e .walk inElse)
 abbrev pub ifElse : ExprFacts → Walk → Walk → State → DaResult
 ifElse c t e a =
     evaluated c a λ after.
-    t .walk (once c true after) ▷ λ aThen.
-    elseFrom e after (once c false after) ▷ λ aElse.
+    t .walk (gainsWhen c true after) ▷ λ aThen.
+    elseFrom e after (gainsWhen c false after) ▷ λ aElse.
     Ok (merge aThen aElse)
 
 -- S::Block: initialisers, then statements
@@ -159,17 +160,12 @@ abbrev pub arms : List Walk → State → DaOut → DaResult
 arms [] after all = Ok all
 arms (w ∷ ws) after all = unlessOneRead (w .labels) after (w .walk after ▷ λ arm. arms ws after (merge all arm))
 
--- has_default
-abbrev pub hasDefault : List Walk → Bool
-hasDefault [] = false
-hasDefault (w ∷ ws) = w .isDefault || hasDefault ws
-
 -- S::Case: "Some(m) if has_default && !after => Ok(m), _ => Ok(DaOut::Falls(after))"; where there are no arms there is no default
 abbrev pub caseOf : ExprFacts → List Walk → State → DaResult
 caseOf c ws a =
     evaluated c a λ after.
     arms ws after Jumps ▷ λ all.
-    cond (hasDefault ws && not (isWritten after)) (Ok all) (Ok (Falls after))
+    cond (hasDefault (λ w. w .isDefault) ws && not (isWritten after)) (Ok all) (Ok (Falls after))
 
 -- "matches!(body_out, DaOut::Falls(true))"
 abbrev pub fallsWritten : DaOut → Bool
@@ -189,7 +185,7 @@ rounds r cannotEscape body step after inBody =
 
 -- S::While, and S::For after its init: "the BODY runs only when the cond is TRUE"
 abbrev pub whileTrue : StmtRow → Bool → ExprFacts → Walk → Walk → State → DaResult
-whileTrue r cannotEscape c body step a = evaluated c a λ after. rounds r cannotEscape body step after (once c true after)
+whileTrue r cannotEscape c body step a = evaluated c a λ after. rounds r cannotEscape body step after (gainsWhen c true after)
 
 -- S::For: "da_stmt(init, ..)?.state()"
 abbrev pub forFrom : StmtRow → Bool → Walk → ExprFacts → Walk → Walk → State → DaResult
@@ -246,7 +242,8 @@ walkOf ctx Block r es held ws = referring ctx r (block ws)
 walkOf ctx Fork r es held ws = referring ctx r (onlyWritten 5 r)
 walkOf ctx Case r es held ws = referring ctx r (caseOf (nth noFacts 0 es) (tail ws))
 -- S::For, S::While, S::Repeat, S::Forever: "Conservatively falls through even though a `forever` without a `break` never does"
-walkOf ctx For r es held ws = referring ctx r (forFrom r (nth true 3 (r .cannotEscape)) (nth noWalk 0 ws) (nth noFacts 1 es) (nth noWalk 2 ws) (nth noWalk 3 ws))
+walkOf ctx For r es held ws =
+    referring ctx r (forFrom r (nth true 3 (r .cannotEscape)) (nth noWalk 0 ws) (nth noFacts 1 es) (nth noWalk 2 ws) (nth noWalk 3 ws))
 walkOf ctx While r es held ws = referring ctx r (whileTrue r (nth true 1 (r .cannotEscape)) (nth noFacts 0 es) (nth noWalk 1 ws) noWalk)
 walkOf ctx Repeat r es held ws = referring ctx r (repeated r (nth true 1 (r .cannotEscape)) (nth noFacts 0 es) (nth noWalk 1 ws))
 walkOf ctx Forever r es held ws = referring ctx r λ a. rounds r (nth true 0 (r .cannotEscape)) (nth noWalk 0 ws) noWalk a a
@@ -267,12 +264,12 @@ walkOf ctx Absent r es held ws = noWalk
 walkOf ctx NoStmt r es held ws = noWalk
 
 -- the facts of what a row holds
-unfoldable pub heldAt : ℕ → Alg (List ExprFacts)
-heldAt x k s lo hi cs held = exprFacts x cs
+unfoldable pub heldFactsAt : ℕ → Alg (List ExprFacts)
+heldFactsAt x k s lo hi cs held = exprFacts x cs
 
 -- of each of these siblings
 abbrev pub heldFacts : ℕ → Forest → List (List ExprFacts)
-heldFacts x = fold (heldAt x)
+heldFacts x = fold (heldFactsAt x)
 
 -- of a row
 abbrev pub stmtRow : DaCtx → ℕ → ℕ → ℕ → ℕ → Forest → StmtRow

@@ -1,4 +1,5 @@
--- The other arms of da_stmt that walk no statement: what the functions answer, from what stands in the code where they return.
+-- The other arms of da_stmt that walk no statement: what the functions answer, from what stands in the code where they return. Nothing
+-- recurses: each is a rule of da's Walk, unfolded at a row.
 use mathlib.Core.Path.{_≡_, refl, sym, _∙_}
 use mathlib.Core.Bool.{Bool, true, false, cond, not, _&&_}
 use mathlib.Core.List.{List, [], _∷_}
@@ -10,7 +11,8 @@ use borrow.Author.Needs.{needs}
 use borrow.Author.Tests.{ne-eqb, ltb-true, ltb-false, leb-true}
 use denote.Enum.Declared.{tagOf}
 use types.Run.{OneOf}
-use Rattle.table.specs.Rows.{kindAt, sideAt, loAt, hiAt, endAt, Forest, nil, node, tree, Nested, RowAlone, NextRow}
+use Rattle.table.specs.Rows.{kindAt, sideAt, loAt, hiAt, endAt, Forest, nil, node, tree, Nested}
+use Rattle.table.specs.Steps.{RowAlone, NextRow}
 use Rattle.table.proofs.Ranges.{ends-within, children}
 use Rattle.table.proofs.Tree.{tree-none, tree-some, tree-alone}
 use Rattle.kinds.specs.declared.StmtClass.{StmtClass}
@@ -37,9 +39,8 @@ use Rattle.da.specs.Walk.{DaCtx, unlessRead, callEffect, task, heldFacts, walkO
 use Rattle.da_rows.specs.declared.Context.{Context}
 use Rattle.da_leaf.specs.declared.Construct.{Construct}
 use Rattle.da_leaf.specs.declared.Construct.the-variants.{Leaf}
-use Rattle.da_rows.specs.Tables.{untimed, factsIn, factIn}
-use Rattle.da_rows.specs.Asking.{giveUpAt}
-use Rattle.da_leaf.specs.Leaves.{returnAt, taskAt, disableAt, eventControlAt, constructOf, asksFirst, LeafRow, leafAt, vettedRow, referringAt}
+use Rattle.da_rows.specs.Steps.{untimed, factsIn, factIn, giveUpAt}
+use Rattle.da_leaf.specs.Steps.{returnAt, taskAt, disableAt, eventControlAt, constructOf, asksFirst, LeafRow, leafAt, vettedRow, referringAt}
 use Rattle.da_rows.proofs.Asking.{unless-then}
 
 -- call_effect

@@ -1,11 +1,13 @@
--- Assignments, and the plain local as a target: what the functions answer, from what stands in the code where they return.
+-- Assignments, and the plain local as a target: what the functions answer, from what stands in the code where they return. Nothing
+-- recurses: each part is asked from the state that the part before it leaves.
 use mathlib.Core.Path.{_≡_, refl, sym, ap, _∙_}
 use mathlib.Core.Bool.{Bool, true, false, cond, not, _&&_, Bool·not-not}
 use mathlib.Core.List.{List}
 use Prim.Native.Nat.{ℕ, _+_, _≤_, _<_}
 use borrow.Author.Needs.{needs}
 use borrow.Author.Tests.{ne-eqb, not-true, not-false}
-use Rattle.table.specs.Rows.{kindAt, endAt, Forest, tree, Nested, RowEnd, RowAlone, NextRow}
+use Rattle.table.specs.Rows.{kindAt, endAt, Forest, tree, Nested}
+use Rattle.table.specs.Steps.{RowEnd, RowAlone, NextRow}
 use Rattle.table.specs.Fold.{nth}
 use Rattle.table.proofs.Fold.{fold-next}
 use Rattle.kinds.specs.declared.ExprClass.{ExprClass}
@@ -27,10 +29,9 @@ use Rattle.da.specs.Walk.{exprOutWrites, unlessOneRead}
 use Rattle.da_rows.specs.declared.Context.{Context}
 use Rattle.da_rows.specs.declared.States.{States}
 use Rattle.da_rows.specs.declared.Evaluated.{Evaluated}
-use Rattle.da_rows.specs.declared.Evaluated.the-variants.{To, Read}
-use Rattle.da_rows.specs.Tables.{factsIn, factIn, heldIn}
-use Rattle.da_rows.specs.Asking.{evaluation, giveUpAt}
-use Rattle.da_leaf.specs.Leaves.{onlyWrittenAt, isLident, targetAt, assignAt, eventAt, blockingAt, scheduled, nonblockingAt}
+use Rattle.da_rows.specs.declared.Evaluated.the-variants.{To, ReadUnwritten}
+use Rattle.da_rows.specs.Steps.{factsIn, factIn, heldIn, evaluation, giveUpAt}
+use Rattle.da_leaf.specs.Steps.{onlyWrittenAt, isLident, targetAt, assignAt, eventAt, blockingAt, scheduled, nonblockingAt}
 use Rattle.da_rows.proofs.Asking.{unread-stops, unread-goes, states-are, unless-one-then}
 
 -- only_written
@@ -112,7 +113,7 @@ module _ (x : ℕ) (rows : List ℕ) (i from to n : ℕ) (a : State) (q : Evalua
   right-is : factIn x rows n to ≡ nth noFacts 1 (factsIn x rows from to)
   right-is = fold-next (factsAt x) noFacts 0 g (t .is)
 
-  pub assign-stops : (stop : DaGiveUp) → q ≡ Read stop → Err stop ≡ assignAt x rows i from to a
+  pub assign-stops : (stop : DaGiveUp) → q ≡ ReadUnwritten stop → Err stop ≡ assignAt x rows i from to a
   assign-stops stop h = unread-stops _ a q (rw right-is at v) stop _ h
 
   pub assign-goes : (states : States) (r : DaResult) → q ≡ To states → r ≡ targetAt x rows i from to (states .after) a → r ≡ assignAt x rows i from to a
@@ -153,7 +154,7 @@ module _ (x : ℕ) (rows : List ℕ) (i end : ℕ) (a : State) (r : DaResult) (e
 
 -- da_scheduled
 module _ (e : ExprFacts) (a : State) (q : Evaluated) (v : q ≡ evaluation e a) where
-  pub scheduled-stops : (stop : DaGiveUp) → q ≡ Read stop → Err stop ≡ scheduled e a
+  pub scheduled-stops : (stop : DaGiveUp) → q ≡ ReadUnwritten stop → Err stop ≡ scheduled e a
   scheduled-stops stop h = unread-stops e a q v stop _ h
 
   pub scheduled-goes : (states : States) → q ≡ To states → Ok (Falls (states .after)) ≡ scheduled e a

@@ -1,4 +1,5 @@
--- Statements that a written local stays written in: what the functions answer that ask for them, and that da_stmt falls there.
+-- Statements that a written local stays written in: what the functions answer that ask for them, and that da_stmt falls there, since no
+-- question of it stops a written local. Class by class; of a list of expressions by induction over it.
 use mathlib.Core.Path.{_≡_, refl, sym, _∙_}
 use mathlib.Core.Bool.{Bool, true, false, cond, not, _&&_}
 use mathlib.Core.List.{List, [], _∷_}
@@ -23,9 +24,9 @@ use Rattle.da.specs.Outcome.{written}
 use Rattle.da.specs.Walk.{unlessOneRead, callEffect, task}
 use Rattle.da_rows.specs.declared.Context.{Context}
 use Rattle.da_leaf.specs.declared.Construct.{Construct}
-use Rattle.da_leaf.specs.declared.Construct.the-variants.{Written, Leaf, Controlled, Arm, Block, If, Case, For, While, Repeat, Forever}
-use Rattle.da_rows.specs.Tables.{untimed, stmtAt, factsIn, heldIn}
-use Rattle.da_leaf.specs.Leaves.{constructOf, staysWritten, constructFrom, leafAt, referringAt}
+use Rattle.da_leaf.specs.declared.Construct.the-variants.{StaysWritten, Leaf, Controlled, Arm, Block, If, Case, For, While, Repeat, Forever}
+use Rattle.da_rows.specs.Steps.{untimed, stmtAt, factsIn, heldIn}
+use Rattle.da_leaf.specs.Steps.{constructOf, staysWritten, constructFrom, leafAt, referringAt}
 
 -- the tags of the classes that `class_stays_written` does not name, after the first
 abbrev otherTags : List ℕ
@@ -58,7 +59,7 @@ stays-at rows i n c a b p q e = rw (← p, ← q) e
 
 -- construct_from
 module _ (c : StmtClass) (a b : Bool) (e : b ≡ a && staysWritten c) where
-  pub from-written : b ≡ true → Written ≡ constructFrom c a
+  pub from-written : b ≡ true → StaysWritten ≡ constructFrom c a
   from-written h = rw (← e, h)
 
   pub from-class : (r : Construct) → b ≡ false → r ≡ constructOf c → r ≡ constructFrom c a
@@ -123,7 +124,7 @@ module _ (ctx : Context) (rows names : List ℕ) (i end : ℕ) where
   -- what a timing control asks
   abbrev isControlled : Construct → Bool
   isControlled Controlled = true
-  isControlled Written = false
+  isControlled StaysWritten = false
   isControlled Leaf = false
   isControlled Arm = false
   isControlled Block = false

@@ -10,13 +10,14 @@ ghost use mathlib.Core.Path.{_≡_};
 ghost use mathlib.Core.Bool.{cond, _&&_};
 ghost use Prim.Native.Nat.{_+_, _*_, _<_};
 ghost use lib.ListN.{length};
-ghost use Rattle.table.specs.Rows.{Nested, RowAlone, tree, kindAt};
+ghost use Rattle.table.specs.Rows.{Nested, tree, kindAt};
+ghost use Rattle.table.specs.Steps.{RowAlone};
 ghost use Rattle.kinds.specs.Named.{taskEffect, stmtClass};
 ghost use Rattle.reads.specs.PathRows.{isLocal, isLoopJump};
 ghost use Rattle.da.specs.Walk.{callEffect};
 ghost use Rattle.sheet_record.specs.Records.{marksOf};
-ghost use Rattle.da_rows.specs.Tables.{untimed, factIn};
-ghost use Rattle.da_leaf.specs.Leaves.{onlyWrittenAt, isLident, targetAt, assignAt, eventAt, blockingAt, scheduled, nonblockingAt, returnAt, taskAt, disableAt, eventControlAt, constructOf, staysWritten, constructFrom, LeafRow, referringAt, leafAt};
+ghost use Rattle.da_rows.specs.Steps.{untimed, factIn};
+ghost use Rattle.da_leaf.specs.Steps.{onlyWrittenAt, isLident, targetAt, assignAt, eventAt, blockingAt, scheduled, nonblockingAt, returnAt, taskAt, disableAt, eventControlAt, constructOf, staysWritten, constructFrom, LeafRow, referringAt, leafAt};
 
 // A statement that is accepted only where the local is written.
 fn only_written(rows: &[u32], i: usize, reason: u32, assigned: bool) -> DaResult
@@ -115,7 +116,7 @@ fn da_assign(
     let right = table::next_at(rows, from, to);
     let e = da_rows::evaluate(rows, local, right, to, assigned);
     match e {
-        Evaluated::Read(stop) => DaResult::Err(stop),
+        Evaluated::ReadUnwritten(stop) => DaResult::Err(stop),
         Evaluated::To(states) => da_target(rows, local, i, from, to, states.after, assigned),
     }
 }
@@ -159,7 +160,7 @@ fn da_scheduled(rows: &[u32], local: usize, from: usize, to: usize, assigned: bo
 {
     let e = da_rows::evaluate(rows, local, from, to, assigned);
     match e {
-        Evaluated::Read(stop) => DaResult::Err(stop),
+        Evaluated::ReadUnwritten(stop) => DaResult::Err(stop),
         Evaluated::To(states) => DaResult::Ok(DaOut::Falls(states.after)),
     }
 }
@@ -263,7 +264,7 @@ fn da_eventctrl(rows: &[u32], local: usize, i: usize, end: usize, assigned: bool
 // How da_stmt goes on at a row: the local stays written, it walks no statement, or first asks and then walks the body, or walks as the
 // construct does.
 pub enum Construct {
-    Written,
+    StaysWritten,
     Leaf,
     Controlled,
     Arm,
@@ -329,7 +330,7 @@ pub fn construct_from(class: StmtClass, assigned: bool) -> Construct
     ensures { λ r. ⌜ r ≡ constructFrom class assigned ⌝ }
 {
     if class_stays_written(class, assigned) {
-        return Construct::Written;
+        return Construct::StaysWritten;
     }
     construct_of(class)
 }

@@ -1,4 +1,5 @@
--- What is asked of expressions, from what stands in the code where it returns.
+-- What is asked of expressions, from what stands in the code where it returns: by cases over the state and the effect. Of several
+-- expressions by induction over their list, in the code by a loop over siblings.
 use mathlib.Core.Path.{_≡_, refl, sym, ap, _∙_}
 use mathlib.Core.Bool.{Bool, true, false, cond, not, _&&_, Bool·not-not}
 use mathlib.Core.List.{List, [], _∷_}
@@ -7,7 +8,8 @@ use native.Mathlib.Omega.{arith}
 use lib.Dec.{ltb}
 use borrow.Author.Needs.{needs}
 use borrow.Author.Tests.{lt-ltb, le-ltb, ltb-true, ltb-false}
-use Rattle.table.specs.Rows.{loAt, hiAt, endAt, tree, Nested, RowEnd, NextRow}
+use Rattle.table.specs.Rows.{loAt, hiAt, endAt, tree, Nested}
+use Rattle.table.specs.Steps.{RowEnd, NextRow}
 use Rattle.table.proofs.Fold.{fold-none, fold-some, fold-step}
 use Rattle.table.proofs.Loops.{Goes, goes-start, goes-on, loops}
 use Rattle.reads.specs.declared.Iff.the-variants.{Skipped}
@@ -25,12 +27,11 @@ use Rattle.da.specs.declared.DaGiveUp.{DaGiveUp}
 use Rattle.da.specs.declared.DaResult.{DaResult}
 use Rattle.da.specs.declared.DaResult.the-variants.{Ok, Err}
 use Rattle.da.specs.Outcome.{State, isWritten, gains, _▷_}
-use Rattle.da.specs.Walk.{exprReads, exprOutWrites, unlessRead, unlessOneRead, heldAt}
+use Rattle.da.specs.Walk.{exprReads, exprOutWrites, unlessRead, unlessOneRead, heldFactsAt}
 use Rattle.da_rows.specs.declared.States.{States}
 use Rattle.da_rows.specs.declared.Evaluated.{Evaluated}
-use Rattle.da_rows.specs.declared.Evaluated.the-variants.{To, Read}
-use Rattle.da_rows.specs.Tables.{firstLo, firstHi, factsIn, factIn, heldIn}
-use Rattle.da_rows.specs.Asking.{statesAfter, evaluation, onward, giveUpAt}
+use Rattle.da_rows.specs.declared.Evaluated.the-variants.{To, ReadUnwritten}
+use Rattle.da_rows.specs.Steps.{firstLo, firstHi, factsIn, factIn, heldIn, statesAfter, evaluation, onward, giveUpAt}
 
 -- give_up and read_at
 pub gives-up : (rows : List ℕ) (i reason lo hi : ℕ) → lo ≡ loAt rows i → hi ≡ hiAt rows i → _≡_ {A = DaGiveUp} (record { reason = reason; lo = lo; hi = hi }) (giveUpAt rows i reason)
@@ -59,7 +60,7 @@ module _ (x : ℕ) (rows : List ℕ) (from to : ℕ) (a : State) (o : ExprEffect
       → o .effect ≡ Reads
       → Nested rows from to
       → stop ≡ record { reason = 2; lo = firstLo rows from to; hi = firstHi rows from to }
-      → Read stop ≡ evaluation (factIn x rows from to) a
+      → ReadUnwritten stop ≡ evaluation (factIn x rows from to) a
   unfolding evaluation
   evaluate-reads stop q g e =
       let span = fact-span x g (ltb from to) refl in
@@ -104,12 +105,12 @@ after-onward e a next = go a (e .effects .effect) refl
     go false Writes q = rw q
     go false Reads q = rw q
 
-goes-to : (b : Bool) (stop : DaGiveUp) (s t : States) → cond b (Read stop) (To s) ≡ To t → t ≡ s
+goes-to : (b : Bool) (stop : DaGiveUp) (s t : States) → cond b (ReadUnwritten stop) (To s) ≡ To t → t ≡ s
 goes-to true stop s t h = cc
 goes-to false stop s t h = cc
 
 module _ (e : ExprFacts) (a : State) (q : Evaluated) (v : q ≡ evaluation e a) where
-  pub unread-stops : (stop : DaGiveUp) (next : DaResult) → q ≡ Read stop → Err stop ≡ unlessRead e a next
+  pub unread-stops : (stop : DaGiveUp) (next : DaResult) → q ≡ ReadUnwritten stop → Err stop ≡ unlessRead e a next
   unread-stops stop next h = sym (unless-onward e a next ∙ rw (← v, h))
 
   pub unread-goes : (states : States) (next : DaResult) → q ≡ To states → next ≡ unlessRead e a next
@@ -121,7 +122,7 @@ module _ (e : ExprFacts) (a : State) (q : Evaluated) (v : q ≡ evaluation e a) 
   states-are states h =
       goes-to (not (isWritten (gains (exprOutWrites e) a)) && exprReads e) (record { reason = 2; lo = e .lo; hi = e .hi }) (statesAfter e a) states (sym v ∙ h)
 
-  pub evaluated-stops : (stop : DaGiveUp) (next : DaResult) → q ≡ Read stop → Err stop ≡ unlessRead e (gains (exprOutWrites e) a) next
+  pub evaluated-stops : (stop : DaGiveUp) (next : DaResult) → q ≡ ReadUnwritten stop → Err stop ≡ unlessRead e (gains (exprOutWrites e) a) next
   evaluated-stops stop next h = sym (after-onward e a next ∙ rw (← v, h))
 
   pub evaluated-goes : (states : States) (next : DaResult) → q ≡ To states → next ≡ unlessRead e (gains (exprOutWrites e) a) next
@@ -133,7 +134,7 @@ unless-then e a next = unless-onward e a next ∙ go (evaluation e a) refl
   where
     go : (q : Evaluated) → evaluation e a ≡ q → onward (evaluation e a) (λ states. next) ≡ unlessRead e a (Ok (Falls a)) ▷ λ out. next
     go (To states) h = rw (unless-onward e a (Ok (Falls a)), h)
-    go (Read stop) h = rw (unless-onward e a (Ok (Falls a)), h)
+    go (ReadUnwritten stop) h = rw (unless-onward e a (Ok (Falls a)), h)
 
 -- and several of them
 pub unless-one-then : (es : List ExprFacts) (a : State) (next : DaResult) → unlessOneRead es a next ≡ unlessOneRead es a (Ok (Falls a)) ▷ λ out. next
@@ -170,7 +171,7 @@ module _ (x : ℕ) (rows : List ℕ) (from to i : ℕ) (a : State) (w : Goes row
 -- unless_held_read: what the first row holds
 module _ (x : ℕ) (rows : List ℕ) (from to : ℕ) (a : State) where
   pub held-none : to ≤ from → Ok (Falls a) ≡ unlessOneRead (heldIn x rows from to) a (Ok (Falls a))
-  held-none h = rw (fold-none (heldAt x) rows from to h)
+  held-none h = rw (fold-none (heldFactsAt x) rows from to h)
 
   pub held-some : (r : DaResult) (n : ℕ)
       → Nested rows from to
@@ -178,18 +179,18 @@ module _ (x : ℕ) (rows : List ℕ) (from to : ℕ) (a : State) where
       → RowEnd rows from to n
       → r ≡ unlessOneRead (factsIn x rows (from + 1) n) a (Ok (Falls a))
       → r ≡ unlessOneRead (heldIn x rows from to) a (Ok (Falls a))
-  unfolding heldAt
-  held-some r n g h t e = e ∙ rw (fold-some (heldAt x) g h, t .is)
+  unfolding heldFactsAt
+  held-some r n g h t e = e ∙ rw (fold-some (heldFactsAt x) g h, t .is)
 
   -- a row that holds nothing
   pub held-bare : (n : ℕ) → Nested rows from to → NextRow rows from to n → n ≤ from + 1 → Ok (Falls a) ≡ unlessOneRead (heldIn x rows from to) a (Ok (Falls a))
-  unfolding heldAt
+  unfolding heldFactsAt
   held-bare n g t l = go (ltb from to) refl
     where
       go : (b : Bool) → ltb from to ≡ b → Ok (Falls a) ≡ unlessOneRead (heldIn x rows from to) a (Ok (Falls a))
       go true e =
           let z : n ≡ endAt rows from = rw e at (t .is) in
-          rw (fold-some (heldAt x) g (ltb-true from to e), fold-none (factsAt x) rows (from + 1) (endAt rows from) (omega arith))
+          rw (fold-some (heldFactsAt x) g (ltb-true from to e), fold-none (factsAt x) rows (from + 1) (endAt rows from) (omega arith))
       go false e = held-none (ltb-false from to e)
 
 pub ruleset unread = (needs, loops, unread-stops, unread-goes, ones-start, ones-done, ones-stop, ones-on, held-none, held-some, held-bare)

@@ -1,5 +1,5 @@
--- Parts of statements: what the functions answer, from what stands in the code where they return, and that the walk tells its parts
--- apart in the same way.
+-- Parts of statements: what the functions answer, from what stands in the code where they return, and that the walk tells its parts apart
+-- in the same way, class by class. Nothing recurses.
 use mathlib.Core.Path.{_≡_, refl, sym, _∙_}
 use mathlib.Core.Bool.{Bool, true, false, not, and-false, and-true, _||_}
 use mathlib.Core.List.{List, [], _∷_}
@@ -9,7 +9,8 @@ use borrow.Author.Needs.{needs}
 use borrow.Author.Tests.{lt-ltb, le-ltb, ltb-true, ltb-false, ne-eqb, not-true, not-false}
 use denote.Enum.Declared.{tagOf}
 use types.Run.{OneOf}
-use Rattle.table.specs.Rows.{kindAt, sideAt, endAt, tree, Nested, RowEnd, NextRow}
+use Rattle.table.specs.Rows.{kindAt, sideAt, endAt, tree, Nested}
+use Rattle.table.specs.Steps.{RowEnd, NextRow}
 use Rattle.table.specs.Fold.{nth, tail}
 use Rattle.table.proofs.Fold.{fold-none, fold-some, fold-tail}
 use Rattle.kinds.specs.declared.StmtClass.{StmtClass}
@@ -28,26 +29,25 @@ use Rattle.da.specs.Outcome.{State}
 use Rattle.da.specs.Walk.{DaCtx, Walk, StmtRow, noWalk, unlessOneRead, fallsWritten, walkOf, walkAt, walks}
 use Rattle.da_rows.specs.declared.Part.{Part}
 use Rattle.da_rows.specs.declared.Part.the-variants.{Match, Default, Absent, Statement}
-use Rattle.da_rows.specs.Tables.{factsIn}
-use Rattle.da_rows.specs.Parts.{partOf, partAt, partIn, isDefaultPart, isAbsentPart, labelsOf, labelsIn, caseOut, bodyAssigns}
+use Rattle.da_rows.specs.Steps.{factsIn, partOfClass, partOfRow, partIn, isDefaultPart, isAbsentPart, labelsOf, labelsIn, caseOut, bodyAssigns}
 
--- part_of: the tags of the classes that are statements, after the first
+-- part_of_class: the tags of the classes that are statements, after the first
 abbrev statementTags : List ℕ
 statementTags = 4 ∷ 5 ∷ 6 ∷ 7 ∷ 8 ∷ 9 ∷ 10 ∷ 11 ∷ 12 ∷ 13 ∷ 14 ∷ 15 ∷ 16 ∷ 17 ∷ 18 ∷ 19 ∷ 20 ∷ 21 ∷ 22 ∷ []
 
 module _ (class : StmtClass) where
-  pub part-named : (named : StmtClass) (r : Part) → class ≡ named → r ≡ partOf named → r ≡ partOf class
+  pub part-named : (named : StmtClass) (r : Part) → class ≡ named → r ≡ partOfClass named → r ≡ partOfClass class
   part-named named r e v = v ∙ rw e
 
-  pub part-statement : OneOf (3 ∷ statementTags) (tagOf the-type class) → Statement ≡ partOf class
-  part-statement o = sym (last-arm partOf Statement 3 statementTags class refl o)
+  pub part-statement : OneOf (3 ∷ statementTags) (tagOf the-type class) → Statement ≡ partOfClass class
+  part-statement o = sym (last-arm partOfClass Statement 3 statementTags class refl o)
 
--- part_at
-pub part-row : (rows : List ℕ) (i n : ℕ) (class : StmtClass) (r : Part) → n ≡ kindAt rows i → class ≡ stmtClass n → r ≡ partOf class → r ≡ partAt rows i
+-- part_of_row
+pub part-row : (rows : List ℕ) (i n : ℕ) (class : StmtClass) (r : Part) → n ≡ kindAt rows i → class ≡ stmtClass n → r ≡ partOfClass class → r ≡ partOfRow rows i
 part-row rows i n class r p q v = v ∙ rw (q, p)
 
 -- is_default
-pub default-by : (rows : List ℕ) (i : ℕ) (found part : Part) (r : Bool) → found ≡ partAt rows i → found ≡ part → r ≡ isDefaultPart part → r ≡ isDefaultPart (partAt rows i)
+pub default-by : (rows : List ℕ) (i : ℕ) (found part : Part) (r : Bool) → found ≡ partOfRow rows i → found ≡ part → r ≡ isDefaultPart part → r ≡ isDefaultPart (partOfRow rows i)
 default-by rows i found part r p q v = v ∙ rw (← p, q)
 
 -- is_absent
@@ -55,7 +55,7 @@ module _ (rows : List ℕ) (from to : ℕ) where
   pub absent-none : to ≤ from → true ≡ isAbsentPart (partIn rows from to)
   absent-none h = rw (le-ltb from to h)
 
-  pub absent-by : (found part : Part) (r : Bool) → from < to → found ≡ partAt rows from → found ≡ part → r ≡ isAbsentPart part → r ≡ isAbsentPart (partIn rows from to)
+  pub absent-by : (found part : Part) (r : Bool) → from < to → found ≡ partOfRow rows from → found ≡ part → r ≡ isAbsentPart part → r ≡ isAbsentPart (partIn rows from to)
   absent-by found part r h p q v = v ∙ rw (lt-ltb from to h, ← p, q)
 
 pub ruleset parts = (needs, part-named, part-statement, part-row, default-by, absent-none, absent-by)
@@ -74,7 +74,7 @@ module _ (x : ℕ) (rows : List ℕ) (from to : ℕ) (a : State) where
 
   pub label-by : (found part : Part) (r : DaResult)
       → from < to
-      → found ≡ partAt rows from
+      → found ≡ partOfRow rows from
       → found ≡ part
       → r ≡ unlessOneRead (labelsOf part (factsIn x rows (from + 1) (endAt rows from))) a (Ok (Falls a))
       → r ≡ unlessOneRead (labelsIn x rows from to) a (Ok (Falls a))
@@ -126,7 +126,7 @@ record Told (part : Part) (labels : List ExprFacts) (w : Walk) : Type 0 where
 told : {part : Part} {labels : List ExprFacts} {w : Walk} → w .isAbsent ≡ isAbsentPart part → w .isDefault ≡ isDefaultPart part → w .labels ≡ labelsOf part labels → Told part labels w
 told a d l = record { absent = a; default = d; labelled = l }
 
-part-told : (ctx : DaCtx) (class : StmtClass) (r : StmtRow) (es : List ExprFacts) (held : List (List ExprFacts)) (ws : List Walk) → Told (partOf class) es (walkOf ctx class r es held ws)
+part-told : (ctx : DaCtx) (class : StmtClass) (r : StmtRow) (es : List ExprFacts) (held : List (List ExprFacts)) (ws : List Walk) → Told (partOfClass class) es (walkOf ctx class r es held ws)
 part-told ctx K.Absent r es held ws = told refl refl refl
 part-told ctx K.Match r es held ws = told refl refl refl
 part-told ctx K.Default r es held ws = told refl refl refl

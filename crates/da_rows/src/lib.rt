@@ -16,9 +16,7 @@ ghost use Rattle.reads.specs.Mentions.{refers as refersIn};
 ghost use Rattle.da.specs.declared.DaOut.the-variants.{Falls};
 ghost use Rattle.da.specs.declared.DaResult.the-variants.{Ok};
 ghost use Rattle.da.specs.Walk.{unlessRead, unlessOneRead, fallsWritten};
-ghost use Rattle.da_rows.specs.Tables.{firstLo, firstHi, factIn, factsIn, heldIn};
-ghost use Rattle.da_rows.specs.Asking.{evaluation, giveUpAt};
-ghost use Rattle.da_rows.specs.Parts.{partOf, partAt, partIn, isDefaultPart, isAbsentPart, labelsIn, caseOut, bodyAssigns};
+ghost use Rattle.da_rows.specs.Steps.{firstLo, firstHi, factIn, factsIn, heldIn, evaluation, giveUpAt, partOfClass, partOfRow, partIn, isDefaultPart, isAbsentPart, labelsIn, caseOut, bodyAssigns};
 
 // What a walk is given beside the tables: the local, and whether this block is the only writer of the net.
 pub struct Context {
@@ -36,7 +34,7 @@ pub struct States {
 // What evaluating an expression comes to.
 pub enum Evaluated {
     To(States),
-    Read(DaGiveUp),
+    ReadUnwritten(DaGiveUp),
 }
 
 // A give-up at row i.
@@ -90,7 +88,7 @@ pub fn evaluate(rows: &[u32], local: usize, from: usize, to: usize, assigned: bo
     let e = expr_effect::expr_writes_when(rows, local, from, to);
     let effect = e.effect;
     match effect {
-        ExprDa::Reads => Evaluated::Read(read_at(rows, from, to)),
+        ExprDa::Reads => Evaluated::ReadUnwritten(read_at(rows, from, to)),
         ExprDa::Writes => Evaluated::To(States {
             after: true,
             when_true: true,
@@ -111,7 +109,7 @@ pub fn unless_read(rows: &[u32], local: usize, from: usize, to: usize, assigned:
 {
     let e = evaluate(rows, local, from, to, assigned);
     match e {
-        Evaluated::Read(stop) => DaResult::Err(stop),
+        Evaluated::ReadUnwritten(stop) => DaResult::Err(stop),
         Evaluated::To(states) => DaResult::Ok(DaOut::Falls(assigned)),
     }
 }
@@ -187,8 +185,8 @@ pub enum Part {
     Statement,
 }
 
-fn part_of(class: StmtClass) -> Part
-    ensures { λ r. ⌜ r ≡ partOf class ⌝ }
+fn part_of_class(class: StmtClass) -> Part
+    ensures { λ r. ⌜ r ≡ partOfClass class ⌝ }
 {
     match class {
         StmtClass::Match => Part::Match,
@@ -199,19 +197,19 @@ fn part_of(class: StmtClass) -> Part
     }
 }
 
-fn part_at(rows: &[u32], i: usize) -> Part
+fn part_of_row(rows: &[u32], i: usize) -> Part
     requires { ⌜ 5 * i + 4 < length (now rows) ⌝ }
-    ensures { λ r. ⌜ r ≡ partAt (now (rows .entry)) i ⌝ }
+    ensures { λ r. ⌜ r ≡ partOfRow (now (rows .entry)) i ⌝ }
 {
-    part_of(kinds::stmt_class(table::kind_at(rows, i)))
+    part_of_class(kinds::stmt_class(table::kind_at(rows, i)))
 }
 
 // Whether row i is the default of a case.
 pub fn is_default(rows: &[u32], i: usize) -> bool
     requires { ⌜ 5 * i + 4 < length (now rows) ⌝ }
-    ensures { λ r. ⌜ r ≡ isDefaultPart (partAt (now (rows .entry)) i) ⌝ }
+    ensures { λ r. ⌜ r ≡ isDefaultPart (partOfRow (now (rows .entry)) i) ⌝ }
 {
-    let part = part_at(rows, i);
+    let part = part_of_row(rows, i);
     match part {
         Part::Default => true,
         Part::Match => false,
@@ -228,7 +226,7 @@ pub fn is_absent(rows: &[u32], from: usize, to: usize) -> bool
     if to <= from {
         return true;
     }
-    let part = part_at(rows, from);
+    let part = part_of_row(rows, from);
     match part {
         Part::Absent => true,
         Part::Match => false,
@@ -261,7 +259,7 @@ pub fn unless_label_read(
     if to <= from {
         return DaResult::Ok(DaOut::Falls(assigned));
     }
-    let part = part_at(rows, from);
+    let part = part_of_row(rows, from);
     match part {
         Part::Match => unless_arm_read(rows, local, from, to, assigned),
         Part::Default => DaResult::Ok(DaOut::Falls(assigned)),

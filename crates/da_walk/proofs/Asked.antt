@@ -1,10 +1,12 @@
--- Time is asked once, at the outermost statement.
+-- Time is asked once, at the outermost statement: the law of da's Timing at a row of a table, and what the answer means. Nothing
+-- recurses.
 use mathlib.Core.Path.{_≡_, sym, _∙_}
 use mathlib.Core.Bool.{Bool, true, false, cond, not, _&&_, or-false}
 use mathlib.Core.List.{List}
 use Prim.Native.Nat.{ℕ, _+_, _<_}
 use borrow.Author.Needs.{needs}
-use Rattle.table.specs.Rows.{kindAt, sideAt, loAt, hiAt, endAt, Forest, tree, Nested, RowEnd}
+use Rattle.table.specs.Rows.{kindAt, sideAt, loAt, hiAt, endAt, Forest, tree, Nested}
+use Rattle.table.specs.Steps.{RowEnd}
 use Rattle.table.specs.Fold.{fold}
 use Rattle.table.proofs.Tree.{tree-some, tree-alone}
 use Rattle.reads.specs.Mentions.{some}
@@ -19,9 +21,9 @@ use Rattle.soundness.specs.Demand3.{WalkMeans}
 use Rattle.soundness.proofs.Demand3.{walk-means}
 use Rattle.da_rows.specs.declared.Context.{Context}
 use Rattle.sheet_record.specs.Records.{marksOf}
-use Rattle.da_rows.specs.Tables.{untimed}
-use Rattle.da_rows.specs.Asking.{giveUpAt}
-use Rattle.da_walk.specs.Constructs.{StatementIn, advancesAlone}
+use Rattle.da_rows.specs.Steps.{untimed, giveUpAt}
+use Rattle.da_walk.specs.Statement.{StatementIn}
+use Rattle.da_walk.specs.Steps.{advancesAlone}
 
 -- suspends
 module _ (ctx : Context) (rows : List ℕ) (from : ℕ) where

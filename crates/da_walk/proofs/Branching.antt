@@ -1,14 +1,17 @@
--- Timing controls, blocks, ifs and cases: what the functions answer, from what stands in the code where they return.
+-- Timing controls, blocks, ifs and cases: what the functions answer, from what stands in the code where they return. What a called
+-- function answers is a premise; blocks and arms go on from row to row, by one step of the fold.
 use mathlib.Core.Path.{_≡_, refl, sym, ap, _∙_}
 use mathlib.Core.Bool.{Bool, true, false, cond, not, _&&_, _||_, or-assoc, or-false}
 use mathlib.Core.List.{List}
 use Prim.Native.Nat.{ℕ, _+_, _≤_, _<_}
 use borrow.Author.Tests.{lt-ltb}
-use Rattle.table.specs.Rows.{endAt, tree, Nested, RowEnd, NextRow}
+use Rattle.table.specs.Rows.{endAt, tree, Nested}
+use Rattle.table.specs.Steps.{RowEnd, NextRow}
 use Rattle.table.specs.Fold.{nth, tail}
 use Rattle.table.proofs.Fold.{fold-none, fold-step, fold-next, fold-tail}
 use Rattle.table.proofs.Loops.{Goes, goes-start, goes-on}
 use Rattle.kinds.specs.declared.StmtClass.{StmtClass}
+use Rattle.kinds.specs.Named.{hasDefault}
 use Rattle.expr_effect.specs.Law.{ExprFacts}
 use Rattle.da.specs.declared.DaOut.{DaOut}
 use Rattle.da.specs.declared.DaOut.the-variants.{Falls, Jumps}
@@ -16,17 +19,15 @@ use Rattle.da.specs.declared.DaGiveUp.{DaGiveUp}
 use Rattle.da.specs.declared.DaResult.{DaResult}
 use Rattle.da.specs.declared.DaResult.the-variants.{Ok, Err}
 use Rattle.da.specs.Outcome.{State, isWritten, merge, _▷_, goOn}
-use Rattle.da.specs.Walk.{DaCtx, Walk, noWalk, unlessOneRead, ifElse, block, arms, hasDefault, caseOf, walkAt, daStmt}
+use Rattle.da.specs.Walk.{DaCtx, Walk, noWalk, unlessOneRead, ifElse, block, arms, caseOf, walkAt, daStmt}
 use Rattle.da_rows.specs.declared.States.{States}
 use Rattle.da_rows.specs.declared.Evaluated.{Evaluated}
-use Rattle.da_rows.specs.declared.Evaluated.the-variants.{To, Read}
-use Rattle.da_rows.specs.Tables.{factIn}
-use Rattle.da_rows.specs.Asking.{evaluation}
-use Rattle.da_rows.specs.Parts.{partAt, partIn, isDefaultPart, isAbsentPart, labelsIn, caseOut}
+use Rattle.da_rows.specs.declared.Evaluated.the-variants.{To, ReadUnwritten}
+use Rattle.da_rows.specs.Steps.{factIn, evaluation, partOfRow, partIn, isDefaultPart, isAbsentPart, labelsIn, caseOut}
 use Rattle.da_rows.proofs.Asking.{states-are, evaluated-stops, evaluated-goes, unless-one-then}
 use Rattle.da_rows.proofs.Parts.{first-absent, first-default, first-labels}
-use Rattle.da_leaf.specs.Leaves.{referringAt}
-use Rattle.da_walk.specs.Constructs.{walksIn, walkIn, blockIn, ifIn, branches, branchesIn, elseIn, caseIn, armsFrom, armsIn, armIn, controlledAt}
+use Rattle.da_leaf.specs.Steps.{referringAt}
+use Rattle.da_walk.specs.Steps.{walksIn, walkIn, blockIn, ifIn, branches, branchesIn, elseIn, caseIn, armsFrom, armsIn, armIn, controlledAt}
 
 -- da_controlled
 module _ (ctx : DaCtx) (rows : List ℕ) (class : StmtClass) (i end : ℕ) (a : State) (r : DaResult) (e : r ≡ referringAt ctx rows class i end a) where
@@ -76,14 +77,14 @@ case-end (Ok all) default after = go (default && not (isWritten after))
 
 case-after : (c : ExprFacts) (ws : List Walk) (a : State) (q : Evaluated) (states : States) → q ≡ evaluation c a → q ≡ To states → armsFrom Jumps false ws (states .after) ≡ caseOf c ws a
 case-after c ws a q states v h =
-    case-end (arms ws (states .after) Jumps) (hasDefault ws) (states .after)
+    case-end (arms ws (states .after) Jumps) (hasDefault (λ w. w .isDefault) ws) (states .after)
     ∙ rw (states-are c a q v states h) (evaluated-goes c a q v states _ h)
 
 module _ (ctx : DaCtx) (rows : List ℕ) (from to : ℕ) (a : State) (q : Evaluated) (e : q ≡ evaluation (factIn (ctx .local) rows from to) a) where
-  pub if-stops : (stop : DaGiveUp) → q ≡ Read stop → Err stop ≡ ifIn ctx rows from to a
+  pub if-stops : (stop : DaGiveUp) → q ≡ ReadUnwritten stop → Err stop ≡ ifIn ctx rows from to a
   if-stops stop h = evaluated-stops _ a q e stop _ h
 
-  pub case-stops : (stop : DaGiveUp) → q ≡ Read stop → Err stop ≡ caseIn ctx rows from to a
+  pub case-stops : (stop : DaGiveUp) → q ≡ ReadUnwritten stop → Err stop ≡ caseIn ctx rows from to a
   case-stops stop h = evaluated-stops _ a q e stop _ h
 
   module _ (states : States) (n : ℕ) (r : DaResult) (h : q ≡ To states) (g : Nested rows from to) (t : NextRow rows from to n) where
@@ -140,7 +141,7 @@ module _ (ctx : DaCtx) (rows : List ℕ) (from to i : ℕ) (after : State) (all 
   module _ (r : DaResult) (h : i < to) (e : r ≡ armIn ctx rows i to after) where
     arms-step : (n : ℕ) → n ≡ endAt rows i
         → armsFrom all d (walksIn ctx rows i to) after
-        ≡ (r ▷ λ arm. arms (walksIn ctx rows n to) after (merge all arm)) ▷ λ out. Ok (caseOut (d || (walkIn ctx rows i to .isDefault || hasDefault (walksIn ctx rows n to))) after out)
+        ≡ (r ▷ λ arm. arms (walksIn ctx rows n to) after (merge all arm)) ▷ λ out. Ok (caseOut (d || (walkIn ctx rows i to .isDefault || hasDefault (λ w. w .isDefault) (walksIn ctx rows n to))) after out)
     arms-step n p =
         ap (λ (ws : List Walk). armsFrom all d ws after) (fold-step (walkAt ctx) noWalk (w .nested) h p)
         ∙ rw (arms-then (walkIn ctx rows i to .labels) (walkIn ctx rows i to .walk after) after (λ arm. arms (walksIn ctx rows n to) after (merge all arm)), e)
@@ -151,13 +152,13 @@ module _ (ctx : DaCtx) (rows : List ℕ) (from to i : ℕ) (after : State) (all 
     pub arms-on : (arm sum : DaOut) (b d′ : Bool) (n : ℕ)
         → r ≡ Ok arm
         → sum ≡ merge all arm
-        → b ≡ isDefaultPart (partAt rows i)
+        → b ≡ isDefaultPart (partOfRow rows i)
         → d′ ≡ d || b
         → RowEnd rows i to n
         → Goes rows from to n (armsIn ctx rows from to after) (armsFrom sum d′ (walksIn ctx rows n to) after)
     arms-on arm sum b d′ n o m p q t =
         goes-on w t
-        (arms-step n (t .is) ∙ rw (o, m, q, p, first-default ctx (w .nested), lt-ltb i to h, or-assoc d (isDefaultPart (partAt rows i)) (hasDefault (walksIn ctx rows n to))))
+        (arms-step n (t .is) ∙ rw (o, m, q, p, first-default ctx (w .nested), lt-ltb i to h, or-assoc d (isDefaultPart (partOfRow rows i)) (hasDefault (λ w. w .isDefault) (walksIn ctx rows n to))))
 
 -- da_arm
 module _ (ctx : DaCtx) (rows : List ℕ) (from to : ℕ) (a : State) (r : DaResult) (g : Nested rows from to) (e : r ≡ unlessOneRead (labelsIn (ctx .local) rows from to) a (Ok (Falls a))) where

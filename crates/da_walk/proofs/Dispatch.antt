@@ -1,9 +1,11 @@
--- How da_inner goes on at a row, by the class of its statement.
+-- How da_inner goes on at a row, by the class of its statement: class by class, what da_stmt comes to is what the row's construct comes
+-- to.
 use mathlib.Core.Path.{_≡_, refl, sym, ap, _∙_}
 use mathlib.Core.Bool.{Bool, true, false, cond, not, _&&_}
 use mathlib.Core.List.{List}
 use Prim.Native.Nat.{ℕ, _+_, _≤_, _<_}
-use Rattle.table.specs.Rows.{kindAt, endAt, tree, Nested, RowEnd, RowAlone}
+use Rattle.table.specs.Rows.{kindAt, endAt, tree, Nested}
+use Rattle.table.specs.Steps.{RowEnd, RowAlone}
 use Rattle.table.specs.Fold.{nth}
 use Rattle.table.proofs.Fold.{fold-none, fold-some}
 use Rattle.kinds.specs.declared.StmtClass.{StmtClass}
@@ -17,13 +19,13 @@ use Rattle.da.specs.declared.DaResult.the-variants.{Ok}
 use Rattle.da.specs.Outcome.{State, isWritten, giveUp, _▷_}
 use Rattle.da.specs.Walk.{DaCtx, Walk, noWalk, heldFacts, walkOf, walkAt, daStmt}
 use Rattle.da_rows.specs.declared.Context.{Context}
-use Rattle.da_rows.specs.Tables.{untimed, stmtAt, factsIn, factIn, heldIn}
+use Rattle.da_rows.specs.Steps.{untimed, stmtAt, factsIn, factIn, heldIn}
 use Rattle.da_rows.proofs.Asking.{unless-then, unless-one-then}
 use Rattle.da_leaf.specs.declared.Construct.{Construct}
-use Rattle.da_leaf.specs.declared.Construct.the-variants.{Written, Controlled}
-use Rattle.da_leaf.specs.Leaves.{constructOf, asksFirst, staysWritten, constructFrom, LeafRow}
+use Rattle.da_leaf.specs.declared.Construct.the-variants.{StaysWritten, Controlled}
+use Rattle.da_leaf.specs.Steps.{constructOf, asksFirst, staysWritten, constructFrom, LeafRow}
 use Rattle.da_leaf.proofs.Written.{stays-falls}
-use Rattle.da_walk.specs.Constructs.{walksIn, ControlRow, constructAt}
+use Rattle.da_walk.specs.Steps.{walksIn, ControlRow, constructAt}
 
 -- no row
 pub inner-none : (ctx : DaCtx) (rows : List ℕ) (from to : ℕ) (a : State) → to ≤ from → Ok (Falls a) ≡ daStmt ctx (tree rows from to) a
@@ -85,7 +87,7 @@ module _ (c : Context) (rows names : List ℕ) (from to end : ℕ) (a : State) (
   row-from : daStmt (untimed c names) (tree rows from to) a ≡ constructAt (untimed c names) rows class from end a (constructFrom class a)
   row-from = go (a && staysWritten class) refl
     where
-      go : (b : Bool) → a && staysWritten class ≡ b → daStmt (untimed c names) (tree rows from to) a ≡ constructAt (untimed c names) rows class from end a (cond b Written (constructOf class))
+      go : (b : Bool) → a && staysWritten class ≡ b → daStmt (untimed c names) (tree rows from to) a ≡ constructAt (untimed c names) rows class from end a (cond b StaysWritten (constructOf class))
       go true s = sym (row-stays s)
       go false s = row-walk
 
@@ -150,7 +152,7 @@ control-row rows from to end n a class construct t p q e s = record {
   children = t .children;
 }
   where
-    written-not : Written ≡ Controlled → constructOf class ≡ Controlled
+    written-not : StaysWritten ≡ Controlled → constructOf class ≡ Controlled
     written-not z = true-not-false (sym (ap asksFirst z))
 
     go : (b : Bool) → a && staysWritten class ≡ b → constructOf class ≡ Controlled

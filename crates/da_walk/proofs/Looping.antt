@@ -1,10 +1,12 @@
--- Loops: what the functions answer, from what stands in the code where they return.
+-- Loops: what the functions answer, from what stands in the code where they return. What a called function answers is a premise; the
+-- parts of a for are the siblings after its row, one step of the fold each.
 use mathlib.Core.Path.{_≡_, refl, _∙_}
 use mathlib.Core.Bool.{Bool, true}
 use mathlib.Core.List.{List}
 use Prim.Native.Nat.{ℕ, _+_}
 use native.Mathlib.Omega.{arith}
-use Rattle.table.specs.Rows.{tree, RowAlone, NextRow}
+use Rattle.table.specs.Rows.{tree}
+use Rattle.table.specs.Steps.{RowAlone, NextRow}
 use Rattle.table.specs.Fold.{nth}
 use Rattle.table.proofs.Fold.{fold-first, fold-next}
 use Rattle.expr_effect.specs.Law.{ExprFacts, noFacts, factsAt}
@@ -18,13 +20,11 @@ use Rattle.da.specs.Outcome.{State, gains, state, _▷_}
 use Rattle.da.specs.Walk.{DaCtx, Walk, StmtRow, noWalk, rounds, whileTrue, repeated, walkAt, daStmt}
 use Rattle.da_rows.specs.declared.States.{States}
 use Rattle.da_rows.specs.declared.Evaluated.{Evaluated}
-use Rattle.da_rows.specs.declared.Evaluated.the-variants.{To, Read}
-use Rattle.da_rows.specs.Tables.{stmtAt, factIn}
-use Rattle.da_rows.specs.Asking.{evaluation}
-use Rattle.da_rows.specs.Parts.{bodyAssigns}
+use Rattle.da_rows.specs.declared.Evaluated.the-variants.{To, ReadUnwritten}
+use Rattle.da_rows.specs.Steps.{stmtAt, factIn, evaluation, bodyAssigns}
 use Rattle.da_rows.proofs.Asking.{states-are, evaluated-stops, evaluated-goes}
 use Rattle.da_walk.specs.declared.ForParts.{ForParts}
-use Rattle.da_walk.specs.Constructs.{walksIn, walkIn, LoopAt, roundsAt, ForRow, forAt, whileAt, repeatAt, foreverAt}
+use Rattle.da_walk.specs.Steps.{walksIn, walkIn, LoopAt, roundsAt, ForRow, forAt, whileAt, repeatAt, foreverAt}
 
 -- da_rounds
 module _ (ctx : DaCtx) (rows : List ℕ) (row body end : ℕ) (after inBody : State) (r : DaResult) (e : r ≡ daStmt ctx (tree rows body end) inBody) where
@@ -56,7 +56,7 @@ conditionAt ctx rows row body end test step a =
     whileTrue (stmtAt ctx rows row end) (nth true 0 (cannotEscapes (tree rows body end))) (factIn (ctx .local) rows test end) (walkIn ctx rows body end) step a
 
 module _ (ctx : DaCtx) (rows : List ℕ) (row body end test : ℕ) (step : Walk) (a : State) (q : Evaluated) (e : q ≡ evaluation (factIn (ctx .local) rows test end) a) where
-  condition-stops : (stop : DaGiveUp) → q ≡ Read stop → Err stop ≡ conditionAt ctx rows row body end test step a
+  condition-stops : (stop : DaGiveUp) → q ≡ ReadUnwritten stop → Err stop ≡ conditionAt ctx rows row body end test step a
   condition-stops stop h = evaluated-stops _ a q e stop _ h
 
   condition-rounds : (states : States)
@@ -90,7 +90,7 @@ module _ (ctx : DaCtx) (rows : List ℕ) (i end : ℕ) (a : State) (r : DaResult
         (fold-first (walkAt ctx) noWalk (t .step .others) (t .body .is), fold-next (walkAt ctx) noWalk 0 (t .step .others) (t .body .is), fold-next (walkAt ctx) noWalk 1 (t .test .others) (t .step .is), fold-next (walkAt ctx) noWalk 2 (g .children) (t .test .is), fold-next (walkAt ctx) noWalk 0 (t .test .others) (t .step .is), fold-next (walkAt ctx) noWalk 1 (g .children) (t .test .is), fold-next cannotEscapeAt true 0 (t .step .others) (t .body .is), fold-next cannotEscapeAt true 1 (t .test .others) (t .step .is), fold-next cannotEscapeAt true 2 (g .children) (t .test .is), fold-next (factsAt (ctx .local)) noFacts 0 (g .children) (t .test .is), k, ← e, h)
 
     module _ (q : Evaluated) (v : q ≡ evaluation (factIn (ctx .local) rows (p .test) end) b) where
-      pub for-reads : (stop : DaGiveUp) → q ≡ Read stop → Err stop ≡ forAt ctx rows i end a
+      pub for-reads : (stop : DaGiveUp) → q ≡ ReadUnwritten stop → Err stop ≡ forAt ctx rows i end a
       for-reads stop y = condition-stops ctx rows i (p .body) end (p .test) (walkIn ctx rows (p .step) (p .body)) b q v stop y ∙ for-goes
 
       module _ (states : States) (s : DaResult) (y : q ≡ To states) (f : s ≡ daStmt ctx (tree rows (p .body) end) (states .«when_true»)) where
@@ -117,13 +117,13 @@ module _ (ctx : DaCtx) (rows : List ℕ) (i end n : ℕ) (a : State) (g : RowAlo
   while-goes : conditionAt ctx rows i n end (i + 1) noWalk a ≡ whileAt ctx rows i end a
   while-goes = rw (fold-next (walkAt ctx) noWalk 0 (g .children) (t .is), fold-next cannotEscapeAt true 0 (g .children) (t .is))
 
-  pub while-reads : (stop : DaGiveUp) → q ≡ Read stop → Err stop ≡ whileAt ctx rows i end a
+  pub while-reads : (stop : DaGiveUp) → q ≡ ReadUnwritten stop → Err stop ≡ whileAt ctx rows i end a
   while-reads stop h = condition-stops ctx rows i n end (i + 1) noWalk a q e stop h ∙ while-goes
 
   pub while-rounds : (states : States) (s : DaResult) → q ≡ To states → s ≡ roundsAt ctx rows i n end (states .after) (states .«when_true») → s ≡ whileAt ctx rows i end a
   while-rounds states s h v = v ∙ condition-rounds ctx rows i n end (i + 1) noWalk a q e states h ∙ while-goes
 
-  pub repeat-stops : (stop : DaGiveUp) → q ≡ Read stop → Err stop ≡ repeatAt ctx rows i end a
+  pub repeat-stops : (stop : DaGiveUp) → q ≡ ReadUnwritten stop → Err stop ≡ repeatAt ctx rows i end a
   repeat-stops stop h = evaluated-stops _ a q e stop _ h
 
   pub repeat-goes : (states : States) (s : DaResult) → q ≡ To states → s ≡ roundsAt ctx rows i n end (states .after) (states .after) → s ≡ repeatAt ctx rows i end a

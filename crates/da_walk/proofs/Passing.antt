@@ -1,10 +1,12 @@
--- Statements that need not be walked where the local is written: what `passes_over` answers, and what its callers have of it.
+-- Statements that need not be walked where the local is written: what `passes_over` answers, and what its callers have of it. A timing
+-- control asks nothing of a written local, so that its body decides; deeper it does not look.
 use mathlib.Core.Path.{_≡_, refl, sym, ap, _∙_}
 use mathlib.Core.Bool.{true, false, not, _&&_}
 use mathlib.Core.List.{List}
 use Prim.Native.Nat.{ℕ, _+_, _≤_, _<_}
 use borrow.Author.Tests.{not-false}
-use Rattle.table.specs.Rows.{kindAt, tree, Nested, RowEnd, NextRow}
+use Rattle.table.specs.Rows.{kindAt, tree, Nested}
+use Rattle.table.specs.Steps.{RowEnd, NextRow}
 use Rattle.table.proofs.Fold.{fold-next}
 use Rattle.table.proofs.Loops.{Goes}
 use Rattle.kinds.specs.declared.StmtClass.{StmtClass}
@@ -15,12 +17,12 @@ use Rattle.da.specs.declared.DaResult.the-variants.{Ok}
 use Rattle.da.specs.Outcome.{State, written}
 use Rattle.da.specs.Walk.{Walk, noWalk, walkAt, daStmt}
 use Rattle.da_rows.specs.declared.Context.{Context}
-use Rattle.da_rows.specs.Tables.{untimed}
+use Rattle.da_rows.specs.Steps.{untimed}
 use Rattle.da_leaf.specs.declared.Construct.{Construct}
 use Rattle.da_leaf.specs.declared.Construct.the-variants.{Controlled}
-use Rattle.da_leaf.specs.Leaves.{constructOf, staysWritten}
+use Rattle.da_leaf.specs.Steps.{constructOf, staysWritten}
 use Rattle.da_leaf.proofs.Written.{control-falls}
-use Rattle.da_walk.specs.Constructs.{blockIn, PassedOver, ControlRow, controlledAt}
+use Rattle.da_walk.specs.Steps.{blockIn, PassedOver, ControlRow, controlledAt}
 use Rattle.da_walk.proofs.Dispatch.{inner-none, row-walk, inner-stays}
 use Rattle.da_walk.proofs.Branching.{block-on}
 

@@ -10,12 +10,14 @@ use kinds::StmtClass;
 ghost use mathlib.Core.Path.{_≡_};
 ghost use mathlib.Core.Bool.{_&&_, not};
 ghost use Prim.Native.Nat.{_<_};
-ghost use Rattle.table.specs.Rows.{Nested, RowAlone, tree};
+ghost use Rattle.table.specs.Rows.{Nested, tree};
+ghost use Rattle.table.specs.Steps.{RowAlone};
 ghost use Rattle.da.specs.Walk.{daCtx, daStmt};
 ghost use Rattle.soundness.specs.Demand3.{WalkMeans};
 ghost use Rattle.sheet_record.specs.Records.{marksOf};
-ghost use Rattle.da_rows.specs.Tables.{untimed};
-ghost use Rattle.da_walk.specs.Constructs.{blockIn, ifIn, branchesIn, elseIn, caseIn, armsIn, armIn, PassedOver, ControlRow, controlledAt, LoopAt, roundsAt, ForRow, forAt, whileAt, repeatAt, foreverAt, StatementIn, advancesAlone};
+ghost use Rattle.da_rows.specs.Steps.{untimed};
+ghost use Rattle.da_walk.specs.Statement.{StatementIn};
+ghost use Rattle.da_walk.specs.Steps.{blockIn, ifIn, branchesIn, elseIn, caseIn, armsIn, armIn, PassedOver, ControlRow, controlledAt, LoopAt, roundsAt, ForRow, forAt, whileAt, repeatAt, foreverAt, advancesAlone};
 
 // The walk of the first of the rows from `from` up to `to`. Whether time can advance has been asked of a statement that holds it.
 fn da_inner(
@@ -36,7 +38,7 @@ fn da_inner(
     let class = kinds::stmt_class(table::kind_at(rows, from));
     let construct = da_leaf::construct_from(class, assigned);
     match construct {
-        Construct::Written => DaResult::Ok(DaOut::Falls(assigned)),
+        Construct::StaysWritten => DaResult::Ok(DaOut::Falls(assigned)),
         Construct::Leaf => da_leaf::da_leaf(rows, names, ctx, class, from, end, assigned),
         Construct::Controlled => da_controlled(rows, names, ctx, class, from, end, assigned),
         Construct::Arm => da_inner(rows, names, ctx, from + 1, end, assigned),
@@ -145,7 +147,7 @@ fn da_if(
 {
     let e = da_rows::evaluate(rows, ctx.local, from, to, assigned);
     match e {
-        Evaluated::Read(stop) => DaResult::Err(stop),
+        Evaluated::ReadUnwritten(stop) => DaResult::Err(stop),
         Evaluated::To(states) => {
             let then_at = table::next_at(rows, from, to);
             da_branches(rows, names, ctx, then_at, to, states)
@@ -219,7 +221,7 @@ fn da_case(
 {
     let e = da_rows::evaluate(rows, ctx.local, from, to, assigned);
     match e {
-        Evaluated::Read(stop) => DaResult::Err(stop),
+        Evaluated::ReadUnwritten(stop) => DaResult::Err(stop),
         Evaluated::To(states) => {
             let arms = table::next_at(rows, from, to);
             da_arms(rows, names, ctx, arms, to, states.after)
@@ -334,7 +336,7 @@ fn da_for(
     let parts = for_parts(rows, i, end);
     let e = da_rows::evaluate(rows, ctx.local, parts.test, end, da::state(out));
     match e {
-        Evaluated::Read(stop) => DaResult::Err(stop),
+        Evaluated::ReadUnwritten(stop) => DaResult::Err(stop),
         Evaluated::To(states) => {
             let q = da_inner(rows, names, ctx, parts.body, end, states.when_true);
             let DaResult::Ok(body_out) = q else {
@@ -364,7 +366,7 @@ fn da_while(
     let body = table::next_at(rows, i + 1, end);
     let e = da_rows::evaluate(rows, ctx.local, i + 1, end, assigned);
     match e {
-        Evaluated::Read(stop) => DaResult::Err(stop),
+        Evaluated::ReadUnwritten(stop) => DaResult::Err(stop),
         Evaluated::To(states) => da_rounds(
             rows,
             names,
@@ -393,7 +395,7 @@ fn da_repeat(
     let body = table::next_at(rows, i + 1, end);
     let e = da_rows::evaluate(rows, ctx.local, i + 1, end, assigned);
     match e {
-        Evaluated::Read(stop) => DaResult::Err(stop),
+        Evaluated::ReadUnwritten(stop) => DaResult::Err(stop),
         Evaluated::To(states) => da_rounds(
             rows,
             names,

@@ -5,7 +5,7 @@
 // and unary.1. Three words stand for several rows: `x` is ident(path(seg.0)), `c` is ident(path(seg.1)), and `w` is w(x), a call that
 // writes, call.1(path(seg.2) ident(path(seg.0))). `[n:text]` is the text n times. lo and hi are free.
 //
-// Out come the rows of the first mention, with the iff of events skipped and held, `-` where there is none; then, where row 0 is a
+// Out come the rows of the first mention, with the iff of events skipped and included, `-` where there is none; then, where row 0 is a
 // statement, what stmt_no_ref says, and where it is an expression or a target, its effect and whether the local is written once its
 // value is true, and false. Rows whose ends or depth do not pass the check are refused: nobody may ask about them.
 use checks::Checked;
@@ -14,12 +14,14 @@ use libc::STDIN_FILENO;
 use libc::STDOUT_FILENO;
 use reads::Iff;
 use reads::Mention;
+use refusals::Refusal;
 ghost use Prim.Native.Nat.{_≤_};
 ghost use lib.ListN.{length};
 ghost use Rattle.table.specs.Rows.{Nested};
+ghost use Rattle.case_text.specs.RowTexts.{EndsKept};
 
 // What a word says of its row.
-struct Head {
+struct KindAndSide {
     kind: u32,
     side: u32,
 }
@@ -75,7 +77,7 @@ fn mentions(rows: &[u32], count: usize, local: usize)
 {
     say(b": first");
     say_mention(reads::first_mention(rows, Iff::Skipped, local, 0, count));
-    say_mention(reads::first_mention(rows, Iff::Held, local, 0, count));
+    say_mention(reads::first_mention(rows, Iff::Included, local, 0, count));
 }
 
 fn first_kind(rows: &[u32]) -> usize {
@@ -98,11 +100,19 @@ fn answer(rows: &[u32], count: usize, local: usize)
     }
 }
 
-fn checked_answer(rows: &[u32], count: usize, local: usize) {
-    let checked = checks::ends(rows, count);
+// Nobody may ask about rows that are refused, whatever for.
+fn say_refused(refusal: Refusal) {
+    say(b": refused");
+}
+
+// The ends are checked on the same rows as blocks, since these need be neither a statement's nor fit their kinds.
+fn check_and_answer(rows: &[u32], blocks: &[u32], count: usize, local: usize)
+    requires { ⌜ EndsKept (now rows) (now blocks) ⌝ }
+{
+    let checked = checks::check(blocks, count, 1);
     match checked {
         Checked::Passed => answer(rows, count, local),
-        Checked::Refused(fault, row) => say(b": refused"),
+        Checked::Refused(refusal, row) => say_refused(refusal),
     }
 }
 
@@ -128,13 +138,13 @@ fn add_write(rows: &mut [u32], n: usize) -> usize {
     add_ident(rows, ident, 0)
 }
 
-fn head_of(word: &[u8]) -> Head {
+fn kind_and_side(word: &[u8]) -> KindAndSide {
     match case_text::nth(word, 0) {
-        b'&' => Head { kind: 43, side: 1 },
-        b'|' => Head { kind: 43, side: 2 },
-        b'!' => Head { kind: 42, side: 1 },
-        _ => Head {
-            kind: case_text::kind_field(case_text::before(word, b'.')),
+        b'&' => KindAndSide { kind: 43, side: 1 },
+        b'|' => KindAndSide { kind: 43, side: 2 },
+        b'!' => KindAndSide { kind: 42, side: 1 },
+        _ => KindAndSide {
+            kind: case_text::read_kind(case_text::before(word, b'.')),
             side: case_text::field(case_text::after(word, b'.')),
         },
     }
@@ -145,8 +155,8 @@ fn add_row(rows: &mut [u32], n: usize, word: &[u8]) -> usize {
     if word.len() < 1 {
         return n;
     }
-    let head = head_of(word);
-    add(rows, n, head.kind, head.side, 0)
+    let first = kind_and_side(word);
+    add(rows, n, first.kind, first.side, 0)
 }
 
 // The byte of a word of one byte, which no kind's word is; 0 for another.
@@ -256,7 +266,7 @@ fn add_repeated(rows: &mut [u32], from: usize, text: &[u8]) -> usize {
 }
 
 // Sets the rows that a text gives, and answers how many they are.
-fn fill(rows: &mut [u32], text: &[u8]) -> usize {
+fn fill_rows(rows: &mut [u32], text: &[u8]) -> usize {
     let mut n = 0;
     let mut at = 0;
     while at < text.len() {
@@ -271,12 +281,14 @@ fn fill(rows: &mut [u32], text: &[u8]) -> usize {
 
 fn one_case(text: &[u8]) {
     let mut space = [0u32; 10005];
-    let rows: &mut [u32] = &mut space;
     let rest = case_text::after(text, b'|');
-    let count = fill(rows, case_text::after(rest, b'|'));
+    let count = fill_rows(&mut space, case_text::after(rest, b'|'));
+    let mut blocks = space;
+    case_text::as_blocks(&mut blocks);
     say(case_text::before(text, b'|'));
-    checked_answer(
-        rows,
+    check_and_answer(
+        &space,
+        &blocks,
         count,
         case_text::decimal(case_text::before(rest, b'|')),
     );

@@ -1,4 +1,5 @@
--- What each function of the code answers, arm by arm.
+-- What each function of the code answers, arm by arm: what a match has found is a premise, so that every answer is a search. Nothing
+-- recurses.
 use mathlib.Core.Path.{_≡_}
 use mathlib.Core.Bool.{Bool}
 use Rattle.effect_rules.specs.declared.ExprDa.{ExprDa}

@@ -126,22 +126,6 @@ guarded r = record {
   «when_false» = selfGuarded (r .effect) (r .«operands_false»);
 }
 
--- the forms whose operands are not looked at one by one
-abbrev pub isWhole : Form → Bool
-isWhole Vetted = true
-isWhole CallWrites = true
-isWhole Inner = false
-isWhole LogNot = false
-isWhole Operand = false
-isWhole LogAnd = false
-isWhole LogOr = false
-isWhole Operands = false
-isWhole Arms = false
-
 -- nothing evaluated
 abbrev pub noEffect : ExprEffect
 noEffect = record { effect = Clean; «when_true» = false; «when_false» = false }
-
--- no row
-abbrev pub noRowEffect : RowEffect
-noRowEffect = record { effect = Clean; «operands_true» = false; «operands_false» = false }

@@ -1,12 +1,13 @@
--- What the walk asks of a row, said of the first of the rows of a range: it is all that a proof about the walk's code needs to know
--- of these facts beside the law of an expression.
+-- What the walk asks of a row, said of the first of the rows of a range: it is all that a proof about the walk's code needs to know of
+-- these facts beside the law of an expression. Each is one step of the fold; nothing recurses.
 use Prim.Native.Nat.{ℕ, _+_, _≤_, _<_}
 use mathlib.Core.Path.{_≡_, refl, _∙_}
 use mathlib.Core.Bool.{Bool, true, false}
 use mathlib.Core.List.{List}
 use lib.Dec.{ltb}
 use borrow.Author.Tests.{ltb-true, ltb-false}
-use Rattle.table.specs.Rows.{kindAt, loAt, hiAt, endAt, nil, tree, Nested, nextOf}
+use Rattle.table.specs.Rows.{kindAt, loAt, hiAt, endAt, nil, tree, Nested}
+use Rattle.table.specs.Steps.{nextOf}
 use Rattle.table.specs.Fold.{fold, nth}
 use Rattle.table.proofs.Tree.{tree-none, tree-alone}
 use Rattle.table.proofs.Fold.{fold-none, fold-some}

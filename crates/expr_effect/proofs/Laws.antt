@@ -1,5 +1,5 @@
--- The law of an expression, for every row. Of evaluation it cites the rules of triples and the laws of every row, of the
--- reference test that iff makes no difference where none refers.
+-- The law of an expression, for every row: by induction over the tree, each form from the laws of its operands. Of evaluation it cites
+-- the rules of triples and the laws of every row, of the reference test that iff makes no difference where none refers.
 use Prim.Native.Nat.{ℕ, zero, suc, _≤_}
 use lib.Dec.{eqb}
 use mathlib.Core.Path.{_≡_, refl, sym, ap, subst, _∙_}
@@ -12,12 +12,12 @@ use Rattle.kinds.specs.declared.ExprClass.{ExprClass}
 use Rattle.kinds.specs.declared.ExprClass.the-variants.{Ident, Call, Lident, Opaque, Event, Unary, Binary, Ternary, Paren, Other}
 use Rattle.kinds.specs.Named.{exprClass}
 use Rattle.kinds.proofs.Below.{true-not-false, neither}
-use Rattle.reads.specs.declared.Iff.the-variants.{Skipped, Held}
+use Rattle.reads.specs.declared.Iff.the-variants.{Skipped, Included}
 use Rattle.reads.specs.PathRows.{isLocal}
 use Rattle.reads.specs.Mentions.{refers}
 use Rattle.reads.specs.Iffs.{iffQuiet}
 use Rattle.reads.proofs.Trees.{refers-node, quiet-children, quiet-others, quiet-alone, refers-quiet}
-use Rattle.paths.specs.Marks.{full, none, none-⊑}
+use Rattle.paths.specs.Marks.{full, blank, blank-⊑}
 use Rattle.paths.specs.Commands.{Command, write, emit, seq, alt}
 use Rattle.paths.specs.Triples.{Triple, at, never}
 use Rattle.paths.specs.Evaluation.{Evaluation, Truth, is-true, is-false, is-unknown, opposite, free, asked, both, either, conditional, writeIf, target, noEvaluation, evaluationOf, evaluationAt, evaluations}
@@ -34,8 +34,10 @@ use Rattle.effect_rules.specs.declared.ExprEffect.{ExprEffect}
 use Rattle.effect_rules.specs.declared.RowEffect.{RowEffect}
 use Rattle.effect_rules.specs.declared.Form.{Form}
 use Rattle.effect_rules.specs.declared.Form.the-variants.{Inner, LogNot, Operand, LogAnd, LogOr, Operands, Arms, CallWrites, Vetted}
-use Rattle.effect_rules.specs.Rules.{unaryForm, binaryForm, callForm, formOf, join, shortCircuit, oneArm, afterCond, writesWhen, effectOf, operandsWrite, selfGuarded, combined, guarded, noEffect, noRowEffect}
-use Rattle.expr_effect.specs.Effect.{exprEffectAt, exprEffects, exprEffectOf, exprDa, unguarded}
+use Rattle.effect_rules.specs.Rules.{unaryForm, binaryForm, callForm, formOf, join, shortCircuit, oneArm, afterCond, writesWhen, effectOf, operandsWrite, selfGuarded, combined, guarded, noEffect}
+use Rattle.effect_rules.specs.Steps.{noRowEffect}
+use Rattle.expr_effect.specs.Effect.{exprEffectAt, exprEffects, exprEffectOf, exprDa}
+use Rattle.expr_effect.specs.Steps.{unguarded}
 use Rattle.expr_effect.proofs.Operands.{unguarded-none, effect-first}
 use Rattle.expr_effect.specs.Law.{EffectLaw, WhenLaw, isPlain, factsAt, exprFacts, noFacts, NoneRefer, none-left, and-more, PlainLaw, ExprLaw, EffectTold, DaTold}
 
@@ -72,11 +74,11 @@ module _ (m : Form) (n : Bool) (a b c : ExprEffect) (e : Evaluation) where
 
 -- the reference test decides
 
-vetted-effect : (n : Bool) (e : Evaluation) → (n ≡ false → Evaluates none none e) → EffectLaw (cond n Reads Clean) e
+vetted-effect : (n : Bool) (e : Evaluation) → (n ≡ false → Evaluates blank blank e) → EffectLaw (cond n Reads Clean) e
 vetted-effect true e q = tt
 vetted-effect false e q = q refl
 
-vetted-sound : (n : Bool) (e : Evaluation) → Evaluates full full e → (n ≡ false → Evaluates none none e) → Sound (guarded (combined Vetted n noEffect noEffect noEffect)) e
+vetted-sound : (n : Bool) (e : Evaluation) → Evaluates full full e → (n ≡ false → Evaluates blank blank e) → Sound (guarded (combined Vetted n noEffect noEffect noEffect)) e
 vetted-sound n e k q = row-sound Vetted n noEffect noEffect noEffect e k (vetted-effect n e q) (λ want t p i. tt)
 
 -- the operand of a unary operator
@@ -104,10 +106,10 @@ flip-meets false is-unknown q = q
 join-effect : (o : Order) (d e : ExprDa) (l r : Evaluation) → EffectLaw d l → EffectLaw e r → EffectLaw (join d e) (free (eitherFirst o (l .value) (r .value)))
 join-effect o Reads e l r p q = tt
 join-effect o Writes Reads l r p q = tt
-join-effect o Writes Writes l r p q = evaluates-free (rule-first-gains o none-⊑ (p .value) (evaluates-forget q .value))
-join-effect o Writes Clean l r p q = evaluates-free (rule-first-gains o none-⊑ (p .value) (q .value))
+join-effect o Writes Writes l r p q = evaluates-free (rule-first-gains o blank-⊑ (p .value) (evaluates-forget q .value))
+join-effect o Writes Clean l r p q = evaluates-free (rule-first-gains o blank-⊑ (p .value) (q .value))
 join-effect o Clean Reads l r p q = tt
-join-effect o Clean Writes l r p q = evaluates-free (rule-second-gains o none-⊑ (p .value) (q .value))
+join-effect o Clean Writes l r p q = evaluates-free (rule-second-gains o blank-⊑ (p .value) (q .value))
 join-effect o Clean Clean l r p q = evaluates-free (rule-either-first o (p .value) (q .value))
 
 -- && and ||: `want` is the outcome of the left whose opposite alone keeps the right from being evaluated
@@ -126,18 +128,18 @@ module _ (want : Bool) (l r : Evaluation) (k : Evaluates full full r) where
   short-effect Clean Reads false p q w = tt
 
 -- both were evaluated: the left wrote, or the right did
-both-when : (u v : Bool) {c d : Command} → Triple none c (at none) never → Triple full d (at full) never → WhenLaw u c → WhenLaw v d → WhenLaw (u || v) (seq c d)
+both-when : (u v : Bool) {c d : Command} → Triple blank c (at blank) never → Triple full d (at full) never → WhenLaw u c → WhenLaw v d → WhenLaw (u || v) (seq c d)
 both-when true v h k a b = rule-seq a k
 both-when false true h k a b = rule-seq h b
 both-when false false h k a b = tt
 
 -- where the whole is clean, the left is
-short-left : (d e : ExprDa) (wrote : Bool) {l : Evaluation} → IsClean (shortCircuit d e wrote) → EffectLaw d l → Evaluates none none l
+short-left : (d e : ExprDa) (wrote : Bool) {l : Evaluation} → IsClean (shortCircuit d e wrote) → EffectLaw d l → Evaluates blank blank l
 short-left Clean e wrote i p = p
 short-left Writes e wrote i p = absurd i
 short-left Reads e wrote i p = absurd i
 
-module _ (u v : Bool) {l r : Evaluation} (p : Evaluates none none l) (k : Evaluates full full r) where
+module _ (u v : Bool) {l r : Evaluation} (p : Evaluates blank blank l) (k : Evaluates full full r) where
   pair-when : (s t : Truth) → WhenLaw u (l .truth s) → WhenLaw v (r .truth t) → WhenLaw (u || v) (seq (l .truth s) (r .truth t))
   pair-when s t a b = both-when u v (p .truth s) (k .truth t) a b
 
@@ -160,7 +162,7 @@ module _ (u v : Bool) {l r : Evaluation} (p : Evaluates none none l) (k : Evalua
 -- a conditional
 
 module _ (o : Order) (l r : Evaluation) (kl : Evaluates full full l) (kr : Evaluates full full r) (c : Evaluation) where
-  arms-effect : (d e : ExprDa) → Evaluates none none c → EffectLaw d l → EffectLaw e r → EffectLaw (oneArm d e) (free (conditional o c l r))
+  arms-effect : (d e : ExprDa) → Evaluates blank blank c → EffectLaw d l → EffectLaw e r → EffectLaw (oneArm d e) (free (conditional o c l r))
   arms-effect Reads e h p q = tt
   arms-effect Writes Reads h p q = tt
   arms-effect Writes Writes h p q = evaluates-free (conditional-triple o h (evaluates-forget p) (evaluates-forget q))
@@ -254,7 +256,7 @@ module _ (n : Bool) (a b c : ExprEffect) (d e f : Evaluation) (p : Sound a d) (q
 
 call-sound : (n i : Bool) (a b c : ExprEffect) (e : Evaluation)
     → Evaluates full full (cond i (free (emit write)) e)
-    → (n ≡ false → Evaluates none none (cond i (free (emit write)) e))
+    → (n ≡ false → Evaluates blank blank (cond i (free (emit write)) e))
     → Sound (guarded (combined (cond i CallWrites Vetted) n a b c)) (cond i (free (emit write)) e)
 call-sound n true a b c e k q = writes-sound n
 call-sound n false a b c e k q = vetted-sound n e k q
@@ -265,7 +267,7 @@ module _ (sem : Semantics) (x s : ℕ) (cs : Forest) (n : Bool) {os : List ExprE
 
   sound-kind : (k : ExprClass)
       → Evaluates full full (evaluationOf sem x k s cs es)
-      → (n ≡ false → Evaluates none none (evaluationOf sem x k s cs es))
+      → (n ≡ false → Evaluates blank blank (evaluationOf sem x k s cs es))
       → Sound (guarded (combined (formOf k s) n (nth noEffect 0 os) (nth noEffect 1 os) (nth noEffect 2 os))) (evaluationOf sem x k s cs es)
   unfolding unaryForm binaryForm callForm
   sound-kind Unary h v = unary-sound n _ _ _ _ _ _ (child 0) (child 1) (child 2) (eqb s 1)
@@ -280,7 +282,7 @@ module _ (sem : Semantics) (x s : ℕ) (cs : Forest) (n : Bool) {os : List ExprE
   sound-kind Other h v = vetted-sound n _ h v
 
 -- a row that does not refer by the walk's test does not hold a mention either, where no iff refers
-row-held : (x k s lo hi : ℕ) (cs others : Forest) → iffQuiet x (node k s lo hi cs others) ≡ true → refers Skipped x (node k s lo hi cs nil) ≡ false → refers Held x (node k s lo hi cs nil) ≡ false
+row-held : (x k s lo hi : ℕ) (cs others : Forest) → iffQuiet x (node k s lo hi cs others) ≡ true → refers Skipped x (node k s lo hi cs nil) ≡ false → refers Included x (node k s lo hi cs nil) ≡ false
 row-held x k s lo hi cs others q e = sym (refers-quiet x (node k s lo hi cs nil) (quiet-alone x k s lo hi cs others q)) ∙ e
 
 sound : (sem : Semantics) (x : ℕ) (f : Forest) → iffQuiet x f ≡ true → Pairwise Sound (exprEffects x f) (evaluations sem x f)
@@ -293,7 +295,7 @@ sound sem x (node k s lo hi cs others) q =
 
 -- the law of an expression
 
-write-plain : (plain : Bool) → plain ≡ true → Triple none (writeIf plain) (at full) never
+write-plain : (plain : Bool) → plain ≡ true → Triple blank (writeIf plain) (at full) never
 write-plain true e = rule-write
 write-plain false e = true-not-false (sym e)
 

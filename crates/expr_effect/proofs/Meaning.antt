@@ -1,4 +1,5 @@
--- What the answers say of a single run of a row that is evaluated, where no iff of it refers to the local.
+-- What the answers say of a single run of a row that is evaluated, where no iff of it refers to the local: the law of the row, read off
+-- by what a triple says of a run. Nothing recurses.
 use Prim.Native.Nat.{ℕ}
 use mathlib.Core.Path.{_≡_, refl, subst, ap, _∙_}
 use mathlib.Core.Bool.{Bool, true, false}
@@ -11,7 +12,7 @@ use Rattle.reads.specs.declared.Iff.the-variants.{Skipped}
 use Rattle.reads.specs.PathRows.{isLocal}
 use Rattle.reads.specs.Mentions.{refers}
 use Rattle.reads.specs.Iffs.{iffQuiet}
-use Rattle.paths.specs.Marks.{none, full}
+use Rattle.paths.specs.Marks.{blank, full}
 use Rattle.paths.specs.Commands.{PathEvent, read, Ending, falls, Runs}
 use Rattle.paths.specs.Silence.{Silent}
 use Rattle.paths.specs.Evaluation.{Evaluation, Truth, noEvaluation, evaluations}
@@ -27,7 +28,7 @@ use Rattle.expr_effect.specs.Effect.{exprEffectOf, exprDa, exprWritesWhe
 use Rattle.expr_effect.specs.Law.{EffectLaw, WhenLaw, ExprLaw, exprFacts, noFacts}
 use Rattle.expr_effect.proofs.Laws.{facts-effects, facts-refers, facts-plain, effect-told}
 
-not-reads : (d : ExprDa) (e : Evaluation) → (d ≡ Reads → ⊥) → EffectLaw d e → Evaluates none none e
+not-reads : (d : ExprDa) (e : Evaluation) → (d ≡ Reads → ⊥) → EffectLaw d e → Evaluates blank blank e
 not-reads Clean e n h = h
 not-reads Writes e n h = evaluates-forget h
 not-reads Reads e n h = absurd (n refl)
@@ -47,7 +48,7 @@ module _ (sem : Semantics) (x k s lo hi : ℕ) (cs : Forest) (q : iffQuiet x (no
 
   -- Writes: whoever goes on with its value, or its truth, has written
   module _ (w : exprDa x row 0 ≡ Writes) (t : List PathEvent) where
-    written : Evaluates none full evaluated
+    written : Evaluates blank full evaluated
     written = subst (λ d. EffectLaw d evaluated) w effect-law
 
     pub value-written : Runs (evaluated .value) t falls → Written t

@@ -1,4 +1,5 @@
--- The answers at the first row of a range, from those at its children.
+-- The answers at the first row of a range, from those at its children, and that the ranges of its operands are smaller, which is what
+-- falls in the cycle of expr_da and expr_writes_when.
 use Prim.Native.Nat.{ℕ, _+_, _-_, _*_, _≤_, _<_}
 use native.Mathlib.Omega.{arith}
 use mathlib.Core.Path.{_≡_, refl, sym, _∙_}
@@ -15,11 +16,12 @@ use Rattle.reads.specs.NoRef.{exprNoRef}
 use Rattle.effect_rules.specs.declared.ExprEffect.{ExprEffect}
 use Rattle.effect_rules.specs.declared.RowEffect.{RowEffect}
 use Rattle.expr_effect.specs.declared.Places.{Places}
-use Rattle.expr_effect.specs.Places.{PlacesTold}
+use Rattle.expr_effect.specs.Steps.{PlacesTold, unguarded}
 use Rattle.effect_rules.specs.declared.Form.{Form}
 use Rattle.effect_rules.specs.declared.Form.the-variants.{Inner, LogNot, Operand, LogAnd, LogOr, Operands, Arms, CallWrites, Vetted}
-use Rattle.effect_rules.specs.Rules.{combined, guarded, isWhole, noEffect, noRowEffect}
-use Rattle.expr_effect.specs.Effect.{exprEffectAt, exprEffectOf, unguarded}
+use Rattle.effect_rules.specs.Rules.{combined, guarded, noEffect}
+use Rattle.effect_rules.specs.Steps.{isWhole, noRowEffect}
+use Rattle.expr_effect.specs.Effect.{exprEffectAt, exprEffectOf}
 
 -- where the operands are looked at one by one, the reference test does not matter
 untested : (m : Form) (n p : Bool) (a b c : ExprEffect) → isWhole m ≡ false → combined m n a b c ≡ combined m p a b c

@@ -1,4 +1,5 @@
--- Rows that are all quiet have no effect.
+-- Rows that are all quiet have no effect: a row whose operands have none has one only where it refers or is a call that writes. By
+-- induction over the size of the range.
 use Prim.Native.Nat.{ℕ, zero, suc, _+_, _-_, _≤_, _<_}
 use mathlib.Core.Path.{_≡_, refl, sym, _∙_}
 use mathlib.Core.Bool.{Bool, true, false, cond}
@@ -6,7 +7,8 @@ use mathlib.Core.List.{List}
 use native.Mathlib.Omega.{arith}
 use lib.Dec.{ltb, leb, eqb}
 use borrow.Author.Tests.{ltb-true, ltb-false, leb-true, ne-eqb}
-use Rattle.table.specs.Rows.{kindAt, sideAt, endAt, tree, Nested, NextRow}
+use Rattle.table.specs.Rows.{kindAt, sideAt, endAt, tree, Nested}
+use Rattle.table.specs.Steps.{NextRow}
 use Rattle.table.proofs.Ranges.{ends-after, ends-within, others, alone, children}
 use Rattle.table.proofs.Tree.{tree-alone}
 use Rattle.table.proofs.Fold.{fold-none, fold-some, fold-first}
@@ -14,7 +16,8 @@ use Rattle.kinds.specs.declared.ExprClass.{ExprClass}
 use Rattle.kinds.specs.declared.ExprClass.the-variants.{Ident, Call, Lident, Opaque, Event, Unary, Binary, Ternary, Paren, Other}
 use Rattle.kinds.specs.Named.{exprClass}
 use Rattle.reads.specs.declared.Iff.the-variants.{Skipped}
-use Rattle.reads.specs.Mentions.{refers, AllQuiet, AfterQuiet}
+use Rattle.reads.specs.Mentions.{refers}
+use Rattle.reads.specs.Steps.{AllQuiet, AfterQuiet}
 use Rattle.reads.proofs.Quiet.{quiet-clear}
 use Rattle.effect_rules.specs.declared.Form.{Form}
 use Rattle.effect_rules.specs.declared.Form.the-variants.{LogNot, Operand, LogAnd, LogOr, Operands}

@@ -1,5 +1,5 @@
--- The equations of da/expr_effect.rs, arm by arm: expr_da asks expr_writes_when of its left side, which asks expr_da again.
--- A row's operands are its children, numbered from 0.
+-- The equations of da/expr_effect.rs, arm by arm: expr_da asks expr_writes_when of its left side, which asks expr_da again. A row's
+-- operands are its children, numbered from 0. Each equation is computed, by the class and the side.
 use Prim.Native.Nat.{ℕ}
 use mathlib.Core.Path.{_≡_, refl}
 use mathlib.Core.Bool.{Bool, true, false, cond, _||_, not}

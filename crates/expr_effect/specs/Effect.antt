@@ -10,7 +10,7 @@ use Rattle.reads.specs.Mentions.{refers}
 use Rattle.effect_rules.specs.declared.ExprDa.{ExprDa}
 use Rattle.effect_rules.specs.declared.ExprEffect.{ExprEffect}
 use Rattle.effect_rules.specs.declared.RowEffect.{RowEffect}
-use Rattle.effect_rules.specs.Rules.{formOf, writesWhen, combined, guarded, noEffect, noRowEffect}
+use Rattle.effect_rules.specs.Rules.{formOf, writesWhen, combined, guarded, noEffect}
 
 -- a row, from the effects of its children
 abbrev pub rowEffect : ℕ → ℕ → ℕ → ℕ → ℕ → Forest → List ExprEffect → RowEffect
@@ -36,8 +36,3 @@ exprDa x f i = exprEffectOf x f i .effect
 -- expr_writes_when of the sibling number i
 abbrev pub exprWritesWhen : ℕ → Forest → ℕ → Bool → Bool
 exprWritesWhen x f i want = writesWhen (exprEffectOf x f i) want
-
--- the first sibling, before its own effect is looked at
-unfoldable pub unguarded : ℕ → Forest → RowEffect
-unguarded x nil = noRowEffect
-unguarded x (node k s lo hi cs others) = rowEffect x k s lo hi cs (exprEffects x cs)

@@ -13,7 +13,7 @@ use Rattle.reads.specs.declared.Iff.the-variants.{Skipped}
 use Rattle.reads.specs.PathRows.{isLocal}
 use Rattle.reads.specs.Mentions.{refers as refersIn}
 use Rattle.reads.specs.Iffs.{iffQuiet}
-use Rattle.paths.specs.Marks.{full, none}
+use Rattle.paths.specs.Marks.{full, blank}
 use Rattle.paths.specs.Commands.{Command}
 use Rattle.paths.specs.Triples.{Triple, at, never}
 use Rattle.paths.specs.Evaluation.{Evaluation, Truth, noEvaluation, evaluations}
@@ -31,13 +31,13 @@ use Rattle.expr_effect.specs.Effect.{exprEffectAt, exprEffects, exprEffe
 -- too.) Writes: "EVERY evaluation of this expression writes `name` whole, and no read of `name` can precede that write". Reads
 -- claims nothing.
 abbrev pub EffectLaw : ExprDa → Evaluation → Type 0
-EffectLaw Clean e = Evaluates none none e
-EffectLaw Writes e = Evaluates none full e
+EffectLaw Clean e = Evaluates blank blank e
+EffectLaw Writes e = Evaluates blank full e
 EffectLaw Reads e = Unit
 
 -- "is `name` definitely written by then?", where the answer is yes
 abbrev pub WhenLaw : Bool → Command → Type 0
-WhenLaw true c = Triple none c (at full) never
+WhenLaw true c = Triple blank c (at full) never
 WhenLaw false c = Unit
 
 -- "The plain local is an lident whose path is one segment, the local"
@@ -87,15 +87,15 @@ pub data NoneRefer : List ExprFacts → Type 0 where
 -- the plain local: as a target it is written, and nothing of it is read before
 pub record PlainLaw (e : Evaluation) : Type 0 where
   pub plain : e .isPlainLocal ≡ true
-  pub unread : Evaluates none none e
-  pub stored : Triple none (e .store) (at full) never
+  pub unread : Evaluates blank blank e
+  pub stored : Triple blank (e .store) (at full) never
 
 -- what these say of every evaluation of the row
 pub record ExprLaw (facts : ExprFacts) (e : Evaluation) : Type 0 where
   -- where the local is written, any evaluation is fine
   pub calm : Evaluates full full e
   -- no reference: any evaluation is fine from nothing written on, and nothing is read
-  pub quiet : facts .refers ≡ false → Evaluates none none e
+  pub quiet : facts .refers ≡ false → Evaluates blank blank e
   pub silent : facts .refers ≡ false → ReadsNothing e
   pub effect : EffectLaw (facts .effects .effect) e
   pub when : (want : Bool) (t : Truth) → Meets want t → WhenLaw (writesWhen (facts .effects) want) (e .truth t)

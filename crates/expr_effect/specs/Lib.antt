@@ -1,3 +1,3 @@
 pub mod Effect
 pub mod Law
-pub mod Places
+pub mod Steps

@@ -1,5 +1,5 @@
 // What evaluating an expression does to the local: da/expr_effect.rs, over rows. The effect of a row and its writing on both
-// outcomes are worked out together, so each row is visited once.
+// outcomes are worked out together, which visits each row once; whoever asks passes over quiet rows before (`all_quiet`).
 use effect_rules::ExprDa;
 use effect_rules::ExprEffect;
 use effect_rules::Form;
@@ -13,9 +13,9 @@ ghost use Rattle.kinds.specs.Named.{exprClass};
 ghost use Rattle.reads.specs.declared.Iff.the-variants.{Skipped};
 ghost use Rattle.reads.specs.Mentions.{refers};
 ghost use Rattle.effect_rules.specs.Rules.{formOf, combined, noEffect};
-ghost use Rattle.expr_effect.specs.Effect.{unguarded, exprEffectOf};
+ghost use Rattle.expr_effect.specs.Effect.{exprEffectOf};
 ghost use Rattle.expr_effect.specs.Law.{DaTold, EffectTold};
-ghost use Rattle.expr_effect.specs.Places.{PlacesTold};
+ghost use Rattle.expr_effect.specs.Steps.{PlacesTold, unguarded};
 
 // The form of a row, where it ends, and where its second and its third operand start, if it has them.
 struct Places {

@@ -26,7 +26,7 @@ enum Start {
     NoSize,
 }
 
-fn wide(byte: u8) -> usize {
+fn usize_of_byte(byte: u8) -> usize {
     byte as usize
 }
 
@@ -37,7 +37,7 @@ fn next_byte() -> usize {
     if got == 0 {
         return 256;
     }
-    wide(one[0])
+    usize_of_byte(one[0])
 }
 
 fn is_digit(byte: usize) -> bool {

@@ -1,4 +1,5 @@
--- A rule of the whole table, from a test that is computed once over it.
+-- A rule of the whole table, from a test that is computed once over it: true of all numbers below one, it is true of each. The induction is on
+-- that number.
 use Prim.Native.Nat.{ℕ, zero, suc, _<_}
 use mathlib.Core.Path.{_≡_, refl}
 use mathlib.Core.Bool.{Bool, true, false, _&&_, _||_, true≢false, and-eq-true-iff}

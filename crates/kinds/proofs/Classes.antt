@@ -1,5 +1,5 @@
 -- The last arm of a match on the class of a statement, which takes the classes that no other arm names; and the word of a class that
--- one word alone has.
+-- one word alone has. The inductions are on the arms named, and on the list of words.
 use Prim.Native.Nat.{ℕ}
 use Prim.Native.String.{String}
 use mathlib.Core.Path.{_≡_, refl, sym, ap, _∙_}

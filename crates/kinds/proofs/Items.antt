@@ -1,4 +1,5 @@
--- Children against the items of a kind, one child and one item at a time.
+-- Children against the items of a kind, one child and one item at a time: the cases of `fits`, and of no children at all the items, which must all
+-- repeat, by induction on them.
 use Prim.Native.Nat.{ℕ}
 use mathlib.Core.Path.{_≡_, refl}
 use mathlib.Core.Bool.{Bool, true, false, _&&_}

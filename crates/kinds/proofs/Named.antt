@@ -1,4 +1,5 @@
--- The kinds that rules speak of by name, as the numbers that the code matches on.
+-- The kinds that rules speak of by name, as the numbers that the code matches on: each name is looked up in the list, and each match is computed at
+-- all 66 numbers.
 use Prim.Native.Nat.{ℕ}
 use mathlib.Core.Path.{_≡_, refl}
 use mathlib.Core.Bool.{cond}

@@ -1,4 +1,5 @@
--- The numbers of the table say what its entries say: side numbers, classes, items.
+-- The numbers of the table say what its entries say: side numbers, classes, items. What is said of a class is a test computed over the table; what is
+-- said of items is how their number divides.
 use Prim.Native.Nat.{ℕ, zero, suc, _+_, _*_, _/_, _%_, _≤_, _<_}
 use mathlib.Core.Path.{_≡_, refl, sym, ap, _∙_}
 use mathlib.Core.Bool.{or-true, or-false, and-true, Bool, true, false, cond, _&&_, Bool·beq, and-false}
@@ -10,7 +11,7 @@ use lib.Dec.{eqb, leb, ltb, leb·suc-suc, eqb·suc-zero}
 use borrow.Author.Tests.{ltb-true, ltb-false, le-ltb, le-leb, lt-leb, leb-true, eqb-true, eqb-false, eq-eqb, ne-eqb}
 use Rattle.kinds.specs.declared.Kind.{Kind}
 use Rattle.kinds.specs.Kinds.{Class, absent, path, seg, delay, intra, star-or-list, event, arm, decl, S, E, L, Sides, zero-only, up-to, name-number, Item, kinds, noEntry, entry, classNumber, ofClass, isKind, inClass, sideFits, takes}
-use Rattle.kinds.specs.Numbers.{sidesNumber, sideBelow, before, amount, firstOf, pastOf, bit, itemNumber, itemsNumber, ofFirst, takesFirst, repeatsFirst, restFirst, afterFirst, numbers}
+use Rattle.kinds.specs.Steps.{sidesNumber, sideBelow, before, amount, firstOf, pastOf, bit, itemNumber, itemsNumber, ofFirst, takesFirst, repeatsFirst, restFirst, afterFirst, numbers}
 use Rattle.kinds.proofs.Below.{true-not-false, both-true, everyBelow, below}
 
 pub kinds-count : length kinds ≡ 66

@@ -1,4 +1,5 @@
--- Children against the number of a kind's items, as code meets them: one child, and the first item of what is left.
+-- Children against the number of a kind's items, as code meets them: one child, and the first item of what is left. `Left` says that the children to
+-- come fit the items left exactly where all fit, and each step keeps it. The number of the items falls, or the children left.
 use Prim.Native.Nat.{ℕ, _%_, _≤_, _<_}
 use mathlib.Core.Path.{_≡_, refl, sym, _∙_}
 use mathlib.Core.Bool.{Bool, true, false, cond}
@@ -7,7 +8,7 @@ use native.Mathlib.Omega.{arith}
 use lib.Dec.{eqb}
 use borrow.Author.Tests.{leb-true, ne-eqb}
 use Rattle.kinds.specs.Kinds.{Item, takes, fits}
-use Rattle.kinds.specs.Numbers.{itemsNumber, takesFirst, repeatsFirst, restFirst, afterFirst}
+use Rattle.kinds.specs.Steps.{itemsNumber, takesFirst, repeatsFirst, restFirst, afterFirst}
 use Rattle.kinds.proofs.Below.{true-not-false}
 use Rattle.kinds.proofs.Numbers.{takes-first, repeats-first, rest-number, some-number, takes-none, repeats-none}
 use Rattle.kinds.proofs.Items.{allRepeat, fits-none, fits-once, fits-again, fits-skip, fits-not}

@@ -1,4 +1,4 @@
 pub mod Kinds
 pub mod Words
-pub mod Numbers
+pub mod Steps
 pub mod Named

@@ -1,7 +1,7 @@
 -- The kinds that the rules of references, evaluation, effects and statements speak of by name.
 use Prim.Native.Nat.{ℕ, _-_}
 use Prim.Native.String.{String}
-use mathlib.Core.Bool.{cond}
+use mathlib.Core.Bool.{Bool, false, cond, _||_}
 use mathlib.Core.List.{List, [], _∷_}
 use lib.Dec.{eqb, leb}
 use Rattle.kinds.specs.declared.Found.{Found}
@@ -9,7 +9,8 @@ use Rattle.kinds.specs.declared.Found.the-variants.{Is, Unknown}
 use Rattle.kinds.specs.declared.ExprClass.{ExprClass}
 use Rattle.kinds.specs.declared.ExprClass.the-variants.{Ident, Call, Lident, Opaque, Event, Unary, Binary, Ternary, Paren, Other}
 use Rattle.kinds.specs.declared.StmtClass.{StmtClass}
-use Rattle.kinds.specs.declared.StmtClass.the-variants.{Absent, Match, Default, Decl, Blocking, Nonblocking, If, Return, Case, For, While, Repeat, Forever, Block, Fork, Systask, Task, Delayctrl, Eventctrl, Wait, Disable, Null, Unmodelled, NoStmt}
+use Rattle.kinds.specs.declared.StmtClass.the-variants.{Absent, NoStmt, Match, Default, Decl, Blocking, Nonblocking, If, Return, Case, For, While, Repeat}
+use Rattle.kinds.specs.declared.StmtClass.the-variants.{Forever, Block, Fork, Systask, Task, Delayctrl, Eventctrl, Wait, Disable, Null, Unmodelled}
 use Rattle.kinds.specs.Kinds.{bytes}
 use Rattle.kinds.specs.Words.{kindOf}
 
@@ -87,3 +88,9 @@ stmtClass k = stmtClassIn stmtWords k
 -- "A call's side is its effect: 0 inert, 1 writes, 2 reads, 3 unknown. A task's is effect plus 4 if it suspends": the effect alone
 unfoldable pub taskEffect : ℕ → ℕ
 taskEffect s = cond (leb 4 s) (s - 4) s
+
+-- one of the arms of a case is a default, by a test of arms: "no arm only where no default stands" (document 01, "How a path runs");
+-- has_default of da/mod.rs
+abbrev pub hasDefault : {A : Type 0} → (A → Bool) → List A → Bool
+hasDefault isDefault [] = false
+hasDefault isDefault (arm ∷ arms) = isDefault arm || hasDefault isDefault arms

@@ -4,10 +4,10 @@ ghost use mathlib.Core.Bool.{true, cond};
 ghost use mathlib.Core.List.{List, _∷_, map};
 ghost use Rattle.kinds.specs.Kinds.{Item, Sides, kinds as kindList, inClass, S, sideFits, takes};
 ghost use Rattle.kinds.specs.Named.{exprClass, stmtClass};
-ghost use Rattle.kinds.specs.Numbers.{numbers, sidesNumber, itemsNumber, sideBelow, ofFirst, takesFirst, repeatsFirst, restFirst, afterFirst};
+ghost use Rattle.kinds.specs.Steps.{numbers, sidesNumber, itemsNumber, sideBelow, ofFirst, takesFirst, repeatsFirst, restFirst, afterFirst};
 
 // What the table holds of a kind: how many side numbers it has, 0 for as many as there are names, and its children, four
-// hex digits an item with the first item lowest (specs/Numbers).
+// hex digits an item with the first item lowest (specs/Steps).
 pub struct Kind {
     pub sides: usize,
     pub children: usize,

@@ -1,4 +1,4 @@
--- A number that a line holds is in the line's range.
+-- A number that a line holds is in the line's range, by cases of the line's tests.
 use Prim.Native.Nat.{ℕ, _≤_, _+_}
 use mathlib.Core.Path.{_≡_, refl}
 use mathlib.Core.Bool.{Bool, true, false, cond, _&&_, and-eq-true-iff}
@@ -9,8 +9,8 @@ use lib.ListN.{length}
 use borrow.Author.Tests.{leb-true}
 use Rattle.text.specs.Fields.{field, after}
 use Rattle.text.specs.Numbers.{Spelled, is, none, numberOf}
-use Rattle.lines.specs.declared.Fault.{Fault}
-use Rattle.lines.specs.declared.Fault.the-variants.{WrongLine, OutOfRange}
+use Rattle.refusals.specs.declared.Refusal.{Refusal}
+use Rattle.refusals.specs.declared.Refusal.the-variants.{WrongLine, OutOfRange}
 use Rattle.lines.specs.declared.NumberLine.the-variants.{Value, Wrong}
 use Rattle.lines.specs.Lines.{keyed, inRange, numberLine}
 
@@ -18,7 +18,7 @@ pub record Ranged (low high v : ℕ) : Type 0 where
   pub least : low ≤ v
   pub most : v ≤ high
 
-never : {A : Type 0} {fault : Fault} {v next : ℕ} → Wrong fault ≡ Value v next → A
+never : {A : Type 0} {refusal : Refusal} {v next : ℕ} → Wrong refusal ≡ Value v next → A
 never e = absurd (let z : _≡_ {A = ℕ} 0 1 = cc in omega arith)
 
 in-range : (low high after : ℕ) (spelled : Spelled) (v next : ℕ) → inRange low high after spelled ≡ Value v next → Ranged low high v

@@ -4,3 +4,4 @@ pub mod WordLaws
 pub mod RowLaws
 pub mod Told
 pub mod InRange
+pub mod Refusals

@@ -1,4 +1,4 @@
--- A line with a name, test by test.
+-- A line with a name, test by test: a law for each place where the code returns, with the tests before it as premises.
 use Prim.Native.Nat.{ℕ, _-_, _≤_, _<_}
 use mathlib.Core.Path.{_≡_, _∙_}
 use mathlib.Core.Bool.{Bool, true, false, not}
@@ -7,10 +7,10 @@ use native.Mathlib.Omega.{arith}
 use lib.ListN.{length, take, drop}
 use borrow.Author.Tests.{le-leb, lt-leb, not-true, not-false}
 use Rattle.kinds.specs.Kinds.{bytes}
-use Rattle.text.specs.Fields.{afterKey, below}
-use Rattle.text.specs.Runs.{GraphicRead}
+use Rattle.text.specs.Fields.{below}
+use Rattle.text.specs.Steps.{afterKey, GraphicRead}
 use Rattle.text.proofs.FieldLaws.{key-stands, key-after, key-missing, next-after, field-part, line-from, line-told, line-text, line-within}
-use Rattle.lines.specs.declared.Fault.the-variants.{WrongLine, WrongName}
+use Rattle.refusals.specs.declared.Refusal.the-variants.{WrongLine, WrongName}
 use Rattle.lines.specs.declared.NameLine.{NameLine}
 use Rattle.lines.specs.declared.NameLine.the-variants.{Read, Wrong}
 use Rattle.lines.specs.Lines.{jumpMark, nameOf, nameLine}

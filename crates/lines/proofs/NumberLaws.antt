@@ -1,15 +1,15 @@
--- A line with a number, test by test.
+-- A line with a number, test by test: a law for each place where the code returns, with the tests before it as premises.
 use Prim.Native.Nat.{ℕ, _≤_, _<_}
 use mathlib.Core.Path.{_≡_, refl}
 use mathlib.Core.Bool.{true, false, and-false}
 use mathlib.Core.List.{List}
 use lib.ListN.{length}
 use borrow.Author.Tests.{le-leb, lt-leb}
-use Rattle.text.specs.Fields.{isStop, afterKey}
+use Rattle.text.specs.Fields.{isStop}
+use Rattle.text.specs.Steps.{afterKey, nextField, fieldNumber}
 use Rattle.text.specs.Numbers.{bounded}
-use Rattle.text.specs.Runs.{nextField, fieldNumber}
 use Rattle.text.proofs.FieldLaws.{key-stands, key-after, key-missing, next-ends, next-after, next-none, next-number}
-use Rattle.lines.specs.declared.Fault.the-variants.{WrongLine, WrongNumber, OutOfRange}
+use Rattle.refusals.specs.declared.Refusal.the-variants.{WrongLine, WrongNumber, OutOfRange}
 use Rattle.lines.specs.declared.NumberLine.the-variants.{Value, Wrong}
 use Rattle.lines.specs.Lines.{keyed, numberLine}
 

@@ -1,4 +1,5 @@
--- A line with a row, field by field.
+-- A line with a row, field by field: a law for each place where the code returns. A field starts where the one before it was found to end, which is
+-- what the definition says of it.
 use Prim.Native.Nat.{ℕ, _≤_, _<_}
 use mathlib.Core.Path.{_≡_, sym, ap, _∙_}
 use mathlib.Core.Bool.{cond}
@@ -8,18 +9,18 @@ use borrow.Author.Tests.{le-leb, lt-leb}
 use Rattle.kinds.specs.Kinds.{bytes}
 use Rattle.kinds.specs.declared.Found.{Found}
 use Rattle.kinds.specs.declared.Found.the-variants.{Is, Unknown}
-use Rattle.text.specs.Fields.{field, endsBy, after, afterKey}
+use Rattle.text.specs.Fields.{field, endsBy, after}
+use Rattle.text.specs.Steps.{afterKey, nextField, fieldNumber}
 use Rattle.text.specs.Numbers.{bounded, numberOf}
-use Rattle.text.specs.Runs.{nextField, fieldNumber}
 use Rattle.text.proofs.FieldLaws.{key-stands, key-after, key-missing, next-ends, next-after, next-none, next-number}
-use Rattle.lines.specs.declared.Fault.the-variants.{WrongLine, WrongNumber, UnknownKind}
+use Rattle.refusals.specs.declared.Refusal.the-variants.{WrongLine, WrongNumber, UnknownKind}
 use Rattle.lines.specs.declared.RowLine.{RowLine}
 use Rattle.lines.specs.declared.RowLine.the-variants.{Read, Wrong}
 use Rattle.lines.specs.declared.Parts.{Parts}
 use Rattle.lines.specs.declared.Split.{Split}
 use Rattle.lines.specs.declared.Split.the-variants.{Five, Uneven}
 use Rattle.lines.specs.Lines.{fiveFields, rowOf, rowFrom, rowFields, rowLine}
-use Rattle.lines.specs.Parts.{KindRead, partsRow, splitRow}
+use Rattle.lines.specs.Steps.{KindRead, partsRow, splitRow}
 
 -- the places of five fields, each where the one before it ends
 module _ (s : List ℕ) (a : ℕ) (k : Found) (b : ℕ) (w : KindRead s a k b) where

@@ -1,4 +1,5 @@
--- What is known of a name and of a row that a line holds.
+-- What is known of a name and of a row that a line holds: where the text stands, that its place and length give it back, and that a kind is one of the
+-- table's. By cases of the definition's tests.
 use Prim.Native.Nat.{ℕ, _+_, _≤_, _<_}
 use mathlib.Core.Path.{_≡_, refl, sym, ap}
 use mathlib.Core.Bool.{Bool, true, false, cond, _&&_, true≢false, and-eq-true-iff}
@@ -15,8 +16,8 @@ use Rattle.kinds.specs.declared.Found.the-variants.{Is, Unknown}
 use Rattle.words.proofs.Words.{found-below}
 use Rattle.text.specs.Fields.{fieldLength, fieldOf, field, stopAt, stands, endsBy, after, startsWith, below, allGraphic}
 use Rattle.text.specs.Numbers.{Spelled, is, none, numberOf}
-use Rattle.lines.specs.declared.Fault.{Fault}
-use Rattle.lines.specs.declared.Fault.the-variants.{WrongLine, WrongName, WrongSide}
+use Rattle.refusals.specs.declared.Refusal.{Refusal}
+use Rattle.refusals.specs.declared.Refusal.the-variants.{WrongLine, WrongName, WrongSide}
 use Rattle.lines.specs.declared.Name.{Name}
 use Rattle.lines.specs.declared.NameLine.{NameLine}
 use Rattle.lines.specs.declared.NameLine.the-variants as M
@@ -60,11 +61,11 @@ pub record NameTold (before s : List ℕ) (at : ℕ) (name : Name) (next : ℕ) 
 
 isName : NameLine → Bool
 isName (M.Read name next) = true
-isName (M.Wrong fault) = false
+isName (M.Wrong refusal) = false
 
-no-name : {A : Type 0} (fault : Fault) (name : Name) (next : ℕ) → M.Wrong fault ≡ M.Read name next → A
+no-name : {A : Type 0} (refusal : Refusal) (name : Name) (next : ℕ) → M.Wrong refusal ≡ M.Read name next → A
 unfolding isName
-no-name fault name next e = absurd (true≢false (sym (ap isName e)))
+no-name refusal name next e = absurd (true≢false (sym (ap isName e)))
 
 pub name-told : (before s : List ℕ) (at : ℕ) (name : Name) (next : ℕ) → nameLine before s at ≡ M.Read name next → NameTold before s at name next
 unfolding nameLine nameOf keyed
@@ -100,11 +101,11 @@ name-text before s at name next t = rw (t .is) (field-back 10 10 s (at + 5) (t .
 
 isRow : RowLine → Bool
 isRow (R.Read row next) = true
-isRow (R.Wrong fault) = false
+isRow (R.Wrong refusal) = false
 
-no-row : {A : Type 0} (fault : Fault) (row : Row) (next : ℕ) → R.Wrong fault ≡ R.Read row next → A
+no-row : {A : Type 0} (refusal : Refusal) (row : Row) (next : ℕ) → R.Wrong refusal ≡ R.Read row next → A
 unfolding isRow
-no-row fault row next e = absurd (true≢false (sym (ap isRow e)))
+no-row refusal row next e = absurd (true≢false (sym (ap isRow e)))
 
 -- the kind of a row is in the table
 of-known : (side lo hi end : Spelled) (word : Found) (after : ℕ) → ((k : ℕ) → word ≡ Is k → k < 66) → (row : Row) (next : ℕ) → rowOf side lo hi end word after ≡ R.Read row next → row .kind < 66
@@ -143,4 +144,4 @@ row-told names s at row next e = let p = go (rowLine s at) e in (row-known s at 
   where
     go : (l : RowLine) → sided names l ≡ R.Read row next → (l ≡ R.Read row next) × (sideFits (entry (row .kind) .sides) names (row .side) ≡ true)
     go (R.Read r n) e = side-told names row r next n (sideFits (entry (r .kind) .sides) names (r .side)) refl e
-    go (R.Wrong fault) e = no-row fault row next e
+    go (R.Wrong refusal) e = no-row refusal row next e

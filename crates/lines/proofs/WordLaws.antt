@@ -1,4 +1,5 @@
--- What the small letters that `kind_field` reads at a place tell of the field there.
+-- What the small letters that `kind_field` reads at a place tell of the field there: they are all of it where a space follows, and else it is no
+-- kind's word. The inductions are on the bytes.
 use Prim.Native.Nat.{ℕ, zero, suc, _+_}
 use mathlib.Core.Path.{_≡_, refl, sym, ap, _∙_}
 use mathlib.Core.Bool.{Bool, true, false, cond, and-eq-true-iff}
@@ -8,16 +9,16 @@ use native.Mathlib.Omega.{arith}
 use lib.Dec.{leb}
 use lib.ListN.{length, drop}
 use borrow.Author.Tests.{leb-true, ne-eqb}
-use Rattle.words.specs.Keys.{isLetter, lettersUpTo, lettersOf, KindTold}
+use Rattle.words.specs.Steps.{isLetter, lettersUpTo, lettersOf, KindTold}
 use Rattle.kinds.specs.Words.{kindOf}
 use Rattle.kinds.specs.declared.Found.{Found}
 use Rattle.kinds.specs.declared.Found.the-variants.{Unknown}
 use Rattle.words.proofs.Words.{not-whole}
-use Rattle.text.specs.Fields.{isStop, fieldLength, fieldOf, field, stopAt, stands, afterByte, endsBy}
-use Rattle.text.specs.Runs.{nextField}
+use Rattle.text.specs.Fields.{isStop, fieldLength, fieldOf, field, stopAt, stands, endsBy}
+use Rattle.text.specs.Steps.{afterByte, nextField}
 use Rattle.text.proofs.Stops.{byte-stands, byte-missing}
 use Rattle.text.proofs.FieldReads.{Reads, rest-stop, here, told-all, told-some}
-use Rattle.lines.specs.Parts.{KindRead}
+use Rattle.lines.specs.Steps.{KindRead}
 
 -- a letter ends no field
 inside : (b : ℕ) → isLetter b ≡ true → isStop 32 b ≡ false

@@ -11,23 +11,14 @@ use Rattle.kinds.specs.declared.Found.{Found}
 use Rattle.kinds.specs.declared.Found.the-variants.{Is, Unknown}
 use Rattle.text.specs.Fields.{field, endsBy, after, startsWith, below, allGraphic}
 use Rattle.text.specs.Numbers.{Spelled, is, none, numberOf}
-use Rattle.lines.specs.declared.Fault.{Fault}
-use Rattle.lines.specs.declared.Fault.the-variants.{WrongLine, WrongNumber, OutOfRange, WrongName, UnknownKind, WrongSide}
+use Rattle.refusals.specs.declared.Refusal.{Refusal}
+use Rattle.refusals.specs.declared.Refusal.the-variants.{WrongLine, WrongNumber, OutOfRange, WrongName, UnknownKind, WrongSide}
 use Rattle.lines.specs.declared.NumberLine.{NumberLine}
 use Rattle.lines.specs.declared.NumberLine.the-variants as N
 use Rattle.lines.specs.declared.NameLine.{NameLine}
 use Rattle.lines.specs.declared.NameLine.the-variants as M
 use Rattle.lines.specs.declared.RowLine.{RowLine}
 use Rattle.lines.specs.declared.RowLine.the-variants as R
-
--- document 01's number of each fault
-abbrev pub faultNumber : Fault → ℕ
-faultNumber WrongLine = 1
-faultNumber WrongNumber = 2
-faultNumber OutOfRange = 3
-faultNumber WrongName = 4
-faultNumber UnknownKind = 5
-faultNumber WrongSide = 6
 
 -- "Lines end in byte 10": the text at a place up to the end of its line, and where the next line starts
 abbrev pub lineText : List ℕ → ℕ → List ℕ
@@ -117,7 +108,7 @@ rowLine s at = cond (startsWith (bytes "row=") (drop at s)) (rowFields s (at + 4
 
 -- "6: side number not allowed for the kind", the last refusal of a row's line
 abbrev pub sided : ℕ → RowLine → RowLine
-sided names (R.Wrong fault) = R.Wrong fault
+sided names (R.Wrong refusal) = R.Wrong refusal
 sided names (R.Read row next) = cond (sideFits (entry (row .kind) .sides) names (row .side)) (R.Read row next) (R.Wrong WrongSide)
 
 -- a row's line with so many names

@@ -1,39 +1,16 @@
 // The lines of a sheet, each from the place where it starts: what it holds, or its lowest refusal.
 use kinds::Found;
+use refusals::Refusal;
 ghost use mathlib.Core.Path.{_≡_};
 ghost use Prim.Native.Nat.{_<_};
 ghost use lib.ListN.{length};
-ghost use Rattle.lines.specs.Lines.{faultNumber, numberLine, jumpMark, nameOf, nameLine, rowFields, rowLine};
-ghost use Rattle.lines.specs.Parts.{KindRead, partsRow, splitRow};
-
-// What is wrong with a line.
-pub enum Fault {
-    WrongLine,
-    WrongNumber,
-    OutOfRange,
-    WrongName,
-    UnknownKind,
-    WrongSide,
-}
-
-// Document 01's number of a fault.
-pub fn number_of(fault: Fault) -> u32
-    ensures { λ r. ⌜ r ≡ faultNumber fault ⌝ }
-{
-    match fault {
-        Fault::WrongLine => 1,
-        Fault::WrongNumber => 2,
-        Fault::OutOfRange => 3,
-        Fault::WrongName => 4,
-        Fault::UnknownKind => 5,
-        Fault::WrongSide => 6,
-    }
-}
+ghost use Rattle.lines.specs.Lines.{numberLine, jumpMark, nameOf, nameLine, rowFields, rowLine};
+ghost use Rattle.lines.specs.Steps.{KindRead, partsRow, splitRow};
 
 // The number on a line, and where the next line starts.
 pub enum NumberLine {
     Value(usize, usize),
-    Wrong(Fault),
+    Wrong(Refusal),
 }
 
 // What the name table holds of a name.
@@ -46,7 +23,7 @@ pub struct Name {
 // The name on a line, and where the next line starts.
 pub enum NameLine {
     Read(Name, usize),
-    Wrong(Fault),
+    Wrong(Refusal),
 }
 
 // What the row table holds of a row.
@@ -61,7 +38,7 @@ pub struct Row {
 // The row on a line, and where the next line starts.
 pub enum RowLine {
     Read(Row, usize),
-    Wrong(Fault),
+    Wrong(Refusal),
 }
 
 // The kind that a field names, and the place after the space that ends it; 0 where no space does.
@@ -92,22 +69,22 @@ pub fn number_line(s: &[u8], at: usize, key: &[u8], low: usize, high: usize) -> 
 {
     let from = text::after_key(s, at, key);
     if from == 0 {
-        return NumberLine::Wrong(Fault::WrongLine);
+        return NumberLine::Wrong(Refusal::WrongLine);
     }
     let read = text::number(s, from, b'\n', b'\n');
     let next = read.next;
     if next == 0 {
-        return NumberLine::Wrong(Fault::WrongLine);
+        return NumberLine::Wrong(Refusal::WrongLine);
     }
     if 4294967295 < read.value {
-        return NumberLine::Wrong(Fault::WrongNumber);
+        return NumberLine::Wrong(Refusal::WrongNumber);
     }
     let value = read.value as usize;
     if value < low {
-        return NumberLine::Wrong(Fault::OutOfRange);
+        return NumberLine::Wrong(Refusal::OutOfRange);
     }
     if high < value {
-        return NumberLine::Wrong(Fault::OutOfRange);
+        return NumberLine::Wrong(Refusal::OutOfRange);
     }
     NumberLine::Value(value, next)
 }
@@ -130,13 +107,13 @@ fn named(name: &[u8], before: &[u8], offset: usize, next: usize) -> NameLine
     ensures { λ r. ⌜ r ≡ nameOf (now (before .entry)) (now (name .entry)) offset next ⌝ }
 {
     if name.len() < 1 {
-        return NameLine::Wrong(Fault::WrongName);
+        return NameLine::Wrong(Refusal::WrongName);
     }
     if 64 < name.len() {
-        return NameLine::Wrong(Fault::WrongName);
+        return NameLine::Wrong(Refusal::WrongName);
     }
     if !text::is_below(before, name) {
-        return NameLine::Wrong(Fault::WrongName);
+        return NameLine::Wrong(Refusal::WrongName);
     }
     let length = name.len();
     NameLine::Read(
@@ -155,15 +132,15 @@ pub fn name_line(s: &[u8], at: usize, before: &[u8]) -> NameLine
 {
     let from = text::after_key(s, at, b"name=");
     if from == 0 {
-        return NameLine::Wrong(Fault::WrongLine);
+        return NameLine::Wrong(Refusal::WrongLine);
     }
     let read = text::graphic_line(s, from);
     let next = read.next;
     if next == 0 {
-        return NameLine::Wrong(Fault::WrongLine);
+        return NameLine::Wrong(Refusal::WrongLine);
     }
     if !read.all {
-        return NameLine::Wrong(Fault::WrongName);
+        return NameLine::Wrong(Refusal::WrongName);
     }
     let stop = read.stop;
     named(&s[from..stop], before, from, next)
@@ -236,20 +213,20 @@ fn row_of(parts: Parts) -> RowLine
     ensures { λ r. ⌜ r ≡ partsRow parts ⌝ }
 {
     if 4294967295 < parts.side {
-        return RowLine::Wrong(Fault::WrongNumber);
+        return RowLine::Wrong(Refusal::WrongNumber);
     }
     if 4294967295 < parts.lo {
-        return RowLine::Wrong(Fault::WrongNumber);
+        return RowLine::Wrong(Refusal::WrongNumber);
     }
     if 4294967295 < parts.hi {
-        return RowLine::Wrong(Fault::WrongNumber);
+        return RowLine::Wrong(Refusal::WrongNumber);
     }
     if 4294967295 < parts.end {
-        return RowLine::Wrong(Fault::WrongNumber);
+        return RowLine::Wrong(Refusal::WrongNumber);
     }
     let found = parts.kind;
     let Found::Is(kind) = found else {
-        return RowLine::Wrong(Fault::UnknownKind);
+        return RowLine::Wrong(Refusal::UnknownKind);
     };
     RowLine::Read(
         Row {
@@ -270,11 +247,11 @@ pub fn row_line(s: &[u8], at: usize) -> RowLine
 {
     let from = text::after_key(s, at, b"row=");
     if from == 0 {
-        return RowLine::Wrong(Fault::WrongLine);
+        return RowLine::Wrong(Refusal::WrongLine);
     }
     let parts = five_fields(s, from);
     let Split::Five(five) = parts else {
-        return RowLine::Wrong(Fault::WrongLine);
+        return RowLine::Wrong(Refusal::WrongLine);
     };
     row_of(five)
 }

@@ -1,25 +1,25 @@
--- What follows good lines, and a refused load.
+-- What follows good lines, and a refused load: room, zeros in the tails, the check. The fields pass by what is told of the lines, so that of the check
+-- only ends, depth and children can refuse.
 use Prim.Native.Nat.{ℕ, _-_, _*_, _≤_, _<_}
 use mathlib.Core.Path.{_≡_, refl, sym, ap, _∙_}
-use mathlib.Core.Bool.{Bool, true}
 use mathlib.Core.List.{List, _++_}
 use native.Mathlib.Omega.{arith}
-use lib.ListN.{length, take, replicate}
-use lib.Seq.{length-take-le}
+use lib.ListN.{length, take, replicate, length-append, length-replicate}
+use lib.Seq.{length-take-le, take-at}
 use borrow.Author.Tests.{le-leb, lt-leb}
-use Rattle.checks.specs.declared.Fault.{Fault}
+use Rattle.refusals.specs.declared.Refusal.{Refusal}
 use Rattle.checks.specs.declared.Checked.{Checked}
 use Rattle.checks.specs.declared.Checked.the-variants as C
-use Rattle.checks.specs.Checks.{childrenOf}
-use Rattle.checks.proofs.Places.{children-row}
-use Rattle.one_pass.specs.Right.{PassesAll}
+use Rattle.checks.specs.Checks.{fieldsOf, childrenOf, checkedRows}
+use Rattle.checks.proofs.Places.{checked-row}
+use Rattle.checks.proofs.Passed.{fields-passed, checked-is}
 use Rattle.sheet_record.specs.declared.Record.{Record}
-use Rattle.sheet.specs.declared.Refusal.{Refusal}
-use Rattle.sheet.specs.declared.Refusal.the-variants.{NoRoom, Rows}
+use Rattle.refusals.specs.declared.Refusal.{Refusal}
+use Rattle.refusals.specs.declared.Refusal.the-variants.{NoRoom}
 use Rattle.sheet.specs.declared.Loaded.{Loaded}
 use Rattle.sheet.specs.declared.Loaded.the-variants.{Done, Refused}
 use Rattle.sheet.specs.Load.{lineOf, Result, refuse, tableOf, hasRoom, checkedAnswer, withTables, finishOf}
-use Rattle.sheet.specs.Steps.{Room, GoodFilled, finishFronts}
+use Rattle.sheet.specs.Steps.{Room, FieldsRead, GoodFilled, finishFronts}
 
 -- an answer that is refused is not a record
 pub never : {A : Type 0} {refusal : Refusal} {line : ℕ} {r : Record} → Refused refusal line ≡ Done r → A
@@ -64,28 +64,36 @@ module _ (r : Record) (rows names : List ℕ) where
     unfolding finishFronts finishOf hasRoom
     whole = rw (le-leb (5 * r .rows) (length rows) (w .for-rows), le-leb (3 * r .names) (length names) (w .for-names), ← row-table, ← name-table, ← s)
 
-    pub settle-answer : a ≡ finishFronts r rows names .answer
-    settle-answer = sym (ap (λ (x : Result). x .answer) whole ∙ answered (length rows) (length names) a newRows newNames)
+    pub cleared-answer : a ≡ finishFronts r rows names .answer
+    cleared-answer = sym (ap (λ (x : Result). x .answer) whole ∙ answered (length rows) (length names) a newRows newNames)
 
-    pub settle-tables : GoodFilled a (finishFronts r rows names) newRows newNames
-    settle-tables = record { row-table = λ x e. sym (ap (λ (z : Result). z .rows) (good x e)); name-table = λ x e. sym (ap (λ (z : Result). z .names) (good x e)) }
+    pub cleared-tables : GoodFilled a (finishFronts r rows names) newRows newNames
+    cleared-tables = record { row-table = λ x e. sym (ap (λ (z : Result). z .rows) (good x e)); name-table = λ x e. sym (ap (λ (z : Result). z .names) (good x e)) }
       where
         good : (x : Record) → a ≡ Done x → finishFronts r rows names ≡ record { answer = Done x; rows = newRows; names = newNames }
         good x e = whole ∙ ap (λ (z : Loaded). withTables (length rows) (length names) z newRows newNames) e
 
--- the checks, at once
-pub check-at-once : (r : Record) (rows : List ℕ) (b : Bool) → PassesAll rows (r .rows) (r .names) b → b ≡ true → Done r ≡ checkedAnswer r rows
-unfolding checkedAnswer
-check-at-once r rows b w e = rw (w .children e)
+-- the check, whose fields pass
+module _ (r : Record) (rows : List ℕ) (f : fieldsOf rows (r .rows) (r .names) ≡ C.Passed) (c : Checked) (s : c ≡ checkedRows rows (r .rows) (r .names)) where
+  is-children : c ≡ childrenOf rows (r .rows)
+  is-children = s ∙ checked-is rows (r .rows) (r .names) (fields-passed rows (r .rows) (r .names) _ refl f)
 
--- or one by one
-module _ (r : Record) (rows : List ℕ) (c : Checked) (s : c ≡ childrenOf rows (r .rows)) where
   pub check-passed : c ≡ C.Passed → Done r ≡ checkedAnswer r rows
   unfolding checkedAnswer
-  check-passed e = rw (← s, e)
+  check-passed e = rw (← is-children, e)
 
-  pub check-refused : (fault : Fault) (row : ℕ) → c ≡ C.Refused fault row → (line : ℕ) → line ≡ lineOf r row → Refused (Rows fault) line ≡ checkedAnswer r rows
+  pub check-row : (refusal : Refusal) (row : ℕ) → c ≡ C.Refused refusal row → row ≤ 2000
+  check-row refusal row e = checked-row rows (r .rows) (r .names) c refusal row s e
+
+  pub check-refused : (refusal : Refusal) (row : ℕ) → c ≡ C.Refused refusal row → (line : ℕ) → line ≡ lineOf r row → Refused refusal line ≡ checkedAnswer r rows
   unfolding checkedAnswer
-  check-refused fault row e line l = rw (← s, e, l)
+  check-refused refusal row e line l = rw (← is-children, e, l)
 
-pub ruleset answers = (refused-filled, rows-short, names-short, has-room, settle-answer, settle-tables, check-at-once, check-passed, check-refused, children-row)
+-- a table with its tail cleared has the rows that were read in front
+pub fields-cleared : (r : Record) (rows names : List ℕ) → Room r rows names → FieldsRead r rows → (newRows : List ℕ) → newRows ≡ take (5 * r .rows) rows ++ replicate (length rows - 5 * r .rows) 0 → fieldsOf newRows (r .rows) (r .names) ≡ C.Passed
+fields-cleared r rows names w f newRows p =
+    let a : length (take (5 * r .rows) rows) ≡ 5 * r .rows = length-take-le (5 * r .rows) rows (w .for-rows) in
+    let b : length newRows ≡ length rows = ap length p ∙ length-append (take (5 * r .rows) rows) (replicate (length rows - 5 * r .rows) 0) ∙ omega (arith, a, length-replicate {A = ℕ} (length rows - 5 * r .rows) 0, w .for-rows) in
+    f .pass (w .for-rows) newRows (omega (arith, b, w .for-rows)) (ap (take (5 * r .rows)) p ∙ take-at (take (5 * r .rows) rows) (replicate (length rows - 5 * r .rows) 0) (5 * r .rows) a)
+
+pub ruleset answers = (refused-filled, rows-short, names-short, has-room, cleared-answer, cleared-tables, check-passed, check-row, check-refused, fields-cleared)

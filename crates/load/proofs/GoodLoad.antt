@@ -1,11 +1,13 @@
--- What a good load tells: it passes every check that asking makes, its names ascend, its rows are a tree.
+-- What a good load tells: it passes every check that asking makes, its names ascend, its rows are a tree. The definition is taken apart case by case,
+-- and each part cites the law of its lines or of its check.
 use Prim.Native.Nat.{ℕ, zero, suc, _+_, _-_, _*_, _≤_, _<_}
 use mathlib.Core.Path.{_≡_, refl, sym, ap, _∙_}
 use mathlib.Core.Bool.{Bool, true, false, cond, _||_, and-eq-true-iff}
 use mathlib.Core.List.{List, [], _∷_, _++_}
 use native.Mathlib.Omega.{arith}
 use lib.Dec.{leb, ltb}
-use lib.ListN.{length, getD, replicate, length-append, length-replicate, List·getD-append, List·getD-eq-default}
+use lib.ListN.{length, take, getD, replicate, length-append, length-replicate, List·getD-append, List·getD-eq-default}
+use lib.Seq.{take-at}
 use borrow.Author.Tests.{leb-true, le-leb, ltb-true, ltb-false, lt-ltb}
 use Rattle.kinds.specs.Kinds.{bytes}
 use Rattle.table.specs.Rows.{kindAt, tree, Nested}
@@ -20,16 +22,16 @@ use Rattle.text.specs.Fields.{startsWith, below}
 use Rattle.lines.specs.Lines.{jumpMark}
 use Rattle.sheet_record.specs.declared.Record.{Record}
 use Rattle.sheet_record.specs.Records.{recordFits, markAt, textAt}
-use Rattle.sections.proofs.ReadLaws.{NameEntry, names-length, names-entry, names-ascend, rows-length, rows-kind, rows-side, entry-append, text-append}
-use Rattle.sheet.specs.declared.Refusal.{Refusal}
-use Rattle.sheet.specs.declared.Refusal.the-variants.{TooLong, Line, NoRoom}
+use Rattle.sheet.proofs.ReadLaws.{NameEntry, names-length, names-entry, names-ascend, rows-length, rows-kind, rows-side, entry-append, text-append}
+use Rattle.refusals.specs.declared.Refusal.{Refusal}
+use Rattle.refusals.specs.declared.Refusal.the-variants.{TooLong, NoRoom}
 use Rattle.sheet.specs.declared.Loaded.{Loaded}
 use Rattle.sheet.specs.declared.Loaded.the-variants.{Done, Refused}
 use Rattle.sheet.specs.Load.{Parsed, parsed, wrong, linesOf, Result, refuse, tableOf, hasRoom, afterChecks, checkedAnswer, withTables, finishOf, afterParse, loadOf}
 use Rattle.sheet.specs.Meaning.{Asked, LoadMeans}
 use Rattle.sheet.proofs.Reading.{RecordTold, BeforeParts, before-parts}
 use Rattle.load.proofs.Finishing.{never, answered}
-use Rattle.load.proofs.Loading.{LinesTold, lines-told, record-told, refused-load}
+use Rattle.load.proofs.Loading.{LinesTold, lines-told, record-told, row-count, lines-fields, refused-load}
 
 -- the lines, the room and the checks of a good load, and its tables
 pub record GoodLoad (s : List ℕ) (rowRoom nameRoom : ℕ) (r : Record) : Type 0 where
@@ -43,7 +45,7 @@ pub record GoodLoad (s : List ℕ) (rowRoom nameRoom : ℕ) (r : Record) : Type 
 
 good-checks : (c : Checked) (q r : Record) → afterChecks c q ≡ Done r → (c ≡ C.Passed) × (q ≡ r)
 good-checks C.Passed q r e = (refl, cc)
-good-checks (C.Refused fault row) q r e = never e
+good-checks (C.Refused refusal row) q r e = never e
 
 module _ (s : List ℕ) (rowRoom nameRoom : ℕ) (r : Record) where
   not-done : (f : Refusal) (l : ℕ) → refuse rowRoom nameRoom f l .answer ≡ Done r → GoodLoad s rowRoom nameRoom r
@@ -77,7 +79,7 @@ module _ (s : List ℕ) (rowRoom nameRoom : ℕ) (r : Record) where
   good-lines : (p : Parsed) → linesOf s ≡ p → loadOf s rowRoom nameRoom ≡ afterParse rowRoom nameRoom p → afterParse rowRoom nameRoom p .answer ≡ Done r → GoodLoad s rowRoom nameRoom r
   unfolding finishOf
   good-lines (parsed q ns rs) l w e = good-room q ns rs l w (hasRoom rowRoom nameRoom q) refl e
-  good-lines (wrong fault line) l w e = not-done (Line fault) line e
+  good-lines (wrong refusal line) l w e = not-done refusal line e
 
   good-length : (b : Bool) → leb (length s) 65536 ≡ b → cond b (afterParse rowRoom nameRoom (linesOf s)) (refuse rowRoom nameRoom TooLong 0) .answer ≡ Done r → GoodLoad s rowRoom nameRoom r
   unfolding loadOf
@@ -137,14 +139,14 @@ module _ (s : List ℕ) (rowRoom nameRoom : ℕ) (r : Record) (g : GoodLoad s ro
   parts : BeforeParts s r (g .nameNumbers) (told .rows-at)
   parts = before-parts s r (g .nameNumbers) (told .rows-at) (told .first)
 
-  row-count : length (g .rowNumbers) ≡ 5 * r .rows
-  row-count = rows-length (r .names) s (r .rows) [] (told .rows-at) (r .names + 7) (g .rowNumbers) (told .end) (told .last)
+  rows-counted : length (g .rowNumbers) ≡ 5 * r .rows
+  rows-counted = row-count s r (g .nameNumbers) (g .rowNumbers) (g .lines)
 
   name-count : length (g .nameNumbers) ≡ 3 * r .names
   name-count = names-length s (r .names) [] (parts .names-at) 3 (g .nameNumbers) (parts .facts-at) (parts .names)
 
   rows-wide : length (tableOf rowRoom (g .rowNumbers)) ≡ rowRoom
-  rows-wide = table-length rowRoom (g .rowNumbers) (omega (arith, row-count, g .for-rows))
+  rows-wide = table-length rowRoom (g .rowNumbers) (omega (arith, rows-counted, g .for-rows))
 
   names-wide : length (tableOf nameRoom (g .nameNumbers)) ≡ nameRoom
   names-wide = table-length nameRoom (g .nameNumbers) (omega (arith, name-count, g .for-names))
@@ -152,20 +154,13 @@ module _ (s : List ℕ) (rowRoom nameRoom : ℕ) (r : Record) (g : GoodLoad s ro
   ranges : RecordTold r
   ranges = record-told s r (g .nameNumbers) (g .rowNumbers) (g .lines)
 
-  row-at : (i j : ℕ) → i < r .rows → j < 5 → getD (tableOf rowRoom (g .rowNumbers)) (5 * i + j) 0 ≡ getD (g .rowNumbers) (5 * i + j) 0
-  row-at i j h k = table-front rowRoom (g .rowNumbers) (5 * i + j) (omega (arith, row-count))
-
   fields : fieldsOf (tableOf rowRoom (g .rowNumbers)) (r .rows) (r .names) ≡ C.Passed
+  unfolding tableOf
   fields =
-      fields-pass (tableOf rowRoom (g .rowNumbers)) (r .rows) (r .names)
-      (record {
-        held = record { some = ranges .facts .rows .least; few = ranges .facts .rows .most; room = omega (arith, rows-wide, g .for-rows) };
-        known = λ i h. rw (kind i h) (rows-kind (r .names) s (r .rows) [] (told .rows-at) (r .names + 7) (g .rowNumbers) (told .end) (told .last) i h);
-        sides = λ i h. rw (kind i h, row-at i 1 h (omega arith)) (rows-side (r .names) s (r .rows) [] (told .rows-at) (r .names + 7) (g .rowNumbers) (told .end) (told .last) i h);
-      })
+      lines-fields s r (g .nameNumbers) (g .rowNumbers) (g .lines) (tableOf rowRoom (g .rowNumbers)) (omega (arith, rows-wide, g .for-rows)) front
     where
-      kind : (i : ℕ) → i < r .rows → kindAt (tableOf rowRoom (g .rowNumbers)) i ≡ kindAt (g .rowNumbers) i
-      kind i h = table-front rowRoom (g .rowNumbers) (5 * i) (omega (arith, row-count))
+      front : take (5 * r .rows) (tableOf rowRoom (g .rowNumbers)) ≡ g .rowNumbers
+      front = take-at (g .rowNumbers) _ (5 * r .rows) rows-counted
 
   entry : (i : ℕ) → i < r .names → NameEntry s (tableOf nameRoom (g .nameNumbers)) i
   unfolding tableOf
@@ -208,7 +203,7 @@ module _ (s : List ℕ) (rowRoom nameRoom : ℕ) (r : Record) (g : GoodLoad s ro
 
   same-tree : tree (tableOf rowRoom (g .rowNumbers)) 0 (r .rows) ≡ tree (g .rowNumbers) 0 (r .rows)
   unfolding tableOf
-  same-tree = tree-front (g .rowNumbers) (replicate (rowRoom - length (g .rowNumbers)) 0) 0 (r .rows) (omega (arith, row-count)) nested
+  same-tree = tree-front (g .rowNumbers) (replicate (rowRoom - length (g .rowNumbers)) 0) 0 (r .rows) (omega (arith, rows-counted)) nested
 
 -- the laws of a good load
 module _ (s : List ℕ) (rowRoom nameRoom : ℕ) (r : Record) (e : loadOf s rowRoom nameRoom .answer ≡ Done r) where
@@ -252,11 +247,8 @@ module _ (s : List ℕ) (rowRoom nameRoom : ℕ) (r : Record) (e : loadOf s rowR
 
 -- the answer for good lines is the same in all tables that have room for them
 module _ (s : List ℕ) (r : Record) (names rows : List ℕ) (l : linesOf s ≡ parsed r names rows) where
-  lines : LinesTold s r names rows
-  lines = lines-told s r names rows l
-
   count : length rows ≡ 5 * r .rows
-  count = rows-length (r .names) s (r .rows) [] (lines .rows-at) (r .names + 7) rows (lines .end) (lines .last)
+  count = row-count s r names rows l
 
   answer-with : (rowRoom nameRoom : ℕ) → length s ≤ 65536 → hasRoom rowRoom nameRoom r ≡ true → loadOf s rowRoom nameRoom .answer ≡ checkedAnswer r (tableOf rowRoom rows)
   unfolding loadOf finishOf

@@ -1,23 +1,30 @@
--- The whole of a load, from its lines and what follows them.
-use Prim.Native.Nat.{ℕ, _*_, _≤_, _<_}
+-- The whole of a load, from its lines and what follows them: the parts of lines that are right, that their fields pass in every table that has them in
+-- front, and what a refusal leaves. By cases of the definition.
+use Prim.Native.Nat.{ℕ, _+_, _*_, _≤_, _<_}
 use mathlib.Core.Path.{_≡_, refl, sym, ap, _∙_}
 use mathlib.Core.Bool.{Bool, true, false, cond, and-eq-true-iff, true≢false}
 use mathlib.Core.List.{List}
 use native.Mathlib.Omega.{arith}
 use lib.Dec.{leb, ltb}
-use lib.ListN.{length, take, replicate}
+use lib.ListN.{length, take, getD, replicate}
+use lib.Seq.{getD-take}
 use borrow.Author.Tests.{le-leb, lt-leb, leb-true, ltb-false}
-use Rattle.lines.specs.declared.Fault.the-variants.{WrongLine}
-use Rattle.sections.specs.Sections.{Lines, read, refused, rowsFrom}
-use Rattle.sections.specs.Filling.{Short}
+use Rattle.refusals.specs.declared.Refusal.{Refusal}
+use Rattle.refusals.specs.declared.Refusal.the-variants.{WrongLine, TooLong, NoRoom}
+use Rattle.table.specs.Rows.{kindAt}
+use Rattle.checks.specs.declared.Checked.the-variants as C
+use Rattle.checks.specs.Checks.{fieldsOf}
+use Rattle.checks.proofs.Passed.{fields-pass}
+use Rattle.sheet.specs.Header.{firstRow}
+use Rattle.sheet.specs.Sections.{Lines, read, refused, afterLines, rowsFrom}
 use Rattle.sheet_record.specs.declared.Record.{Record}
-use Rattle.sheet.specs.declared.Refusal.{Refusal}
-use Rattle.sheet.specs.declared.Refusal.the-variants.{TooLong, Line, NoRoom}
 use Rattle.sheet.specs.declared.Loaded.{Loaded}
 use Rattle.sheet.specs.declared.Loaded.the-variants.{Done, Refused}
-use Rattle.sheet.specs.Load.{Before, before, stopped, beforeRows, Parsed, parsed, wrong, afterBefore, afterRows, lineOf, linesOf, Result, refuse, tableOf, hasRoom, checkedAnswer, withTables, finishOf, afterParse, loadOf}
-use Rattle.sheet.specs.Steps.{answerOf, BothFilled, GoodFilled, finishFronts, isRefused}
+use Rattle.sheet.specs.Load.{Before, before, stopped, beforeRows, Parsed, parsed, wrong, afterBefore, lineOf, linesOf, Result, refuse, tableOf, hasRoom, checkedAnswer, withTables, finishOf, afterParse, loadOf}
+use Rattle.sheet.specs.Steps.{Short, answerOf, BothFilled, FieldsRead, GoodFilled, finishFronts, isRefused}
+use Rattle.sheet.proofs.NumberLines.{FactsTold}
 use Rattle.sheet.proofs.Reading.{RecordTold, before-told}
+use Rattle.sheet.proofs.ReadLaws.{rows-length, rows-kind, rows-side}
 use Rattle.load.proofs.Finishing.{never, refused-filled}
 
 apart : {A : Type 0} → _≡_ {A = ℕ} 0 1 → A
@@ -49,26 +56,52 @@ lines-told s r names rows e = from-before (beforeRows s) refl e
           all = ltb-false end (length s) h;
         }
 
-    from-rows : (q : Record) (ns : List ℕ) (at : ℕ) → beforeRows s ≡ before q ns at → (l : Lines) → rowsFrom (q .names) (q .rows) s at ≡ l → afterRows l (λ rs end. cond (ltb end (length s)) (wrong WrongLine (lineOf q (q .rows))) (parsed q ns rs)) ≡ parsed r names rows → LinesTold s r names rows
+    from-rows : (q : Record) (ns : List ℕ) (at : ℕ) → beforeRows s ≡ before q ns at → (l : Lines) → rowsFrom (q .names) (q .rows) s at ≡ l → afterLines wrong l (λ rs end. cond (ltb end (length s)) (wrong WrongLine (lineOf q (q .rows))) (parsed q ns rs)) ≡ parsed r names rows → LinesTold s r names rows
     from-rows q ns at f (read rs end) l e = from-end q ns rs at end f l (ltb end (length s)) refl e
-    from-rows q ns at f (refused fault line) l e = apart (cc)
+    from-rows q ns at f (refused refusal line) l e = apart (cc)
 
-    from-before : (b : Before) → beforeRows s ≡ b → afterBefore b (λ q ns at. afterRows (rowsFrom (q .names) (q .rows) s at) (λ rs end. cond (ltb end (length s)) (wrong WrongLine (lineOf q (q .rows))) (parsed q ns rs))) ≡ parsed r names rows → LinesTold s r names rows
+    from-before : (b : Before) → beforeRows s ≡ b → afterBefore b (λ q ns at. afterLines wrong (rowsFrom (q .names) (q .rows) s at) (λ rs end. cond (ltb end (length s)) (wrong WrongLine (lineOf q (q .rows))) (parsed q ns rs))) ≡ parsed r names rows → LinesTold s r names rows
     from-before (before q ns at) f e = from-rows q ns at f (rowsFrom (q .names) (q .rows) s at) refl e
-    from-before (stopped fault line) f e = apart (cc)
+    from-before (stopped refusal line) f e = apart (cc)
 
 pub record-told : (s : List ℕ) (r : Record) (names rows : List ℕ) → linesOf s ≡ parsed r names rows → RecordTold r
 record-told s r names rows e = let t = lines-told s r names rows e in before-told s r names (t .rows-at) (t .first)
 
+-- rows that were read have known kinds and side numbers of theirs, so that the fields pass in every table that has them in front
+module _ (s : List ℕ) (r : Record) (names rows : List ℕ) (l : linesOf s ≡ parsed r names rows) where
+  lines : LinesTold s r names rows
+  lines = lines-told s r names rows l
+
+  pub row-count : length rows ≡ 5 * r .rows
+  row-count = rows-length (r .names) s (r .rows) tt (lines .rows-at) (firstRow (r .names)) rows (lines .end) (lines .last)
+
+  pub lines-fields : (table : List ℕ) → 5 * r .rows ≤ length table → take (5 * r .rows) table ≡ rows → fieldsOf table (r .rows) (r .names) ≡ C.Passed
+  lines-fields table h e =
+      fields-pass table (r .rows) (r .names)
+      (record {
+        held = record { some = ranges .rows .least; few = ranges .rows .most; room = h };
+        known = λ i k. rw (kind i k) (rows-kind (r .names) s (r .rows) tt (lines .rows-at) (firstRow (r .names)) rows (lines .end) (lines .last) i k);
+        sides = λ i k. rw (kind i k, same (5 * i + 1) (omega arith)) (rows-side (r .names) s (r .rows) tt (lines .rows-at) (firstRow (r .names)) rows (lines .end) (lines .last) i k);
+      })
+    where
+      ranges : FactsTold (r .names) r
+      ranges = record-told s r names rows l .facts
+
+      same : (i : ℕ) → i < 5 * r .rows → getD table i 0 ≡ getD rows i 0
+      same i k = sym (ap (λ (t : List ℕ). getD t i 0) (sym e) ∙ getD-take (5 * r .rows) table i 0 k)
+
+      kind : (i : ℕ) → i < r .rows → kindAt table i ≡ kindAt rows i
+      kind i k = same (5 * i) (omega arith)
+
 -- an answer of all lines
 parsed-read : (p : Parsed) (r : Record) → Done r ≡ answerOf p → (names : List ℕ) × ((rows : List ℕ) × (p ≡ parsed r names rows))
 parsed-read (parsed q names rows) r e = let x : q ≡ r = cc in (names, (rows, rw x))
-parsed-read (wrong fault line) r e = apart (cc)
+parsed-read (wrong refusal line) r e = apart (cc)
 
 refused-read : (rowRoom nameRoom : ℕ) (p : Parsed) (refusal : Refusal) (line : ℕ) → Refused refusal line ≡ answerOf p → Refused refusal line ≡ afterParse rowRoom nameRoom p .answer
 unfolding refuse
 refused-read rowRoom nameRoom (parsed q names rows) refusal line e = apart (cc)
-refused-read rowRoom nameRoom (wrong fault l) refusal line e = e
+refused-read rowRoom nameRoom (wrong f l) refusal line e = e
 
 pub is-short : (s : List ℕ) → length s ≤ 65536 → Short s
 is-short s h = record { bytes = h }
@@ -97,6 +130,9 @@ module _ (s : List ℕ) (rowRoom nameRoom : ℕ) where
 
       pub load-names : r .names ≤ 500
       load-names = record-told s r (told .0) (told .1 .0) (told .1 .1) .names .most
+
+      pub fields-read : (rows names : List ℕ) → BothFilled s rows names → FieldsRead r rows
+      fields-read rows names w = record { pass = λ k table h f. lines-fields s r (told .0) (told .1 .0) (told .1 .1) table h (f ∙ w .row-front r (told .0) (told .1 .0) (told .1 .1) k) }
 
       -- what follows the lines that the tables hold
       module _ (rows names : List ℕ) (i : length rows ≡ rowRoom) (j : length names ≡ nameRoom) (w : BothFilled s rows names) where
@@ -136,7 +172,7 @@ module _ (rowRoom nameRoom : ℕ) (refusal : Refusal) (line : ℕ) where
   by-lines : (p : Parsed) → afterParse rowRoom nameRoom p .answer ≡ Refused refusal line → afterParse rowRoom nameRoom p ≡ refuse rowRoom nameRoom refusal line
   unfolding finishOf
   by-lines (parsed r names rows) e = by-room (hasRoom rowRoom nameRoom r) (checkedAnswer r (tableOf rowRoom rows)) (tableOf rowRoom rows) (tableOf nameRoom names) e
-  by-lines (wrong fault l) e = by-refusal (Line fault) l e
+  by-lines (wrong refusal l) e = by-refusal refusal l e
 
   by-length : (b : Bool) (p : Parsed) → cond b (afterParse rowRoom nameRoom p) (refuse rowRoom nameRoom TooLong 0) .answer ≡ Refused refusal line → cond b (afterParse rowRoom nameRoom p) (refuse rowRoom nameRoom TooLong 0) ≡ refuse rowRoom nameRoom refusal line
   by-length true p e = by-lines p e
@@ -175,4 +211,4 @@ module _ (s : List ℕ) (rowRoom nameRoom : ℕ) (a : Loaded) (q : a ≡ loadOf 
     pub good-names : names ≡ loadOf s rowRoom nameRoom .names
     good-names = let t = done-told a (sym p ∙ e) in g .name-table (t .0) (t .1)
 
-pub ruleset answers = (is-short, load-long, load-lines, lines-filled, load-rows, load-names, load-answer, load-filled, zero-rows, zero-names, good-rows, good-names, refused-filled)
+pub ruleset answers = (is-short, load-long, load-lines, lines-filled, load-rows, load-names, fields-read, load-answer, load-filled, zero-rows, zero-names, good-rows, good-names, refused-filled)

@@ -12,8 +12,7 @@ use Rattle.checks.specs.Checks.{holds, whenHeld, firstFrom, endsBefore, above, 
 use Rattle.text.specs.Fields.{isStop, fieldLength, fieldOf, stopAt, stands, endsBy, after, startsWith, below, isGraphic, allGraphic}
 use Rattle.text.specs.Numbers.{isDigit, allDigits, isEmpty, zeroFirst, decimal, bounded, numberOf}
 use Rattle.lines.specs.Lines.{keyed, numberLine, jumpMark, nameOf, nameLine, fiveFields, rowOf, rowFrom, rowFields, rowLine, rowAt}
-use Rattle.sections.specs.Sections.{linesFrom, nameStep, rowStep}
-use Rattle.header.specs.Header.{headOf, lastFacts, factsFrom}
+use Rattle.sheet.specs.Sections.{linesFrom, numberStep, nameStep, rowStep}
 use Rattle.sheet.specs.declared.Loaded.the-variants.{Done}
 use Rattle.sheet.specs.Load.{refusalOf, placeOf, beforeRows, linesOf, refuse, tableOf, hasRoom, checkedAnswer, finishOf, loadOf}
 
@@ -37,7 +36,7 @@ pub listing-loads : loadOf listing 46 7
           11 ∷ 0 ∷ 0 ∷ 6 ∷ 9 ∷ 0 ∷ 0 ∷ 0 ∷ 0 ∷ 2 ∷ 0 ∷ 0 ∷ 0 ∷ 0 ∷ 3 ∷ 60 ∷ 0 ∷ 0 ∷ 1 ∷ 6 ∷ 1 ∷ 0 ∷ 0 ∷ 1 ∷ 6 ∷ 2 ∷ 1 ∷ 0 ∷ 1 ∷ 6 ∷ 41 ∷ 0 ∷ 4 ∷ 5 ∷ 9 ∷ 1 ∷ 0 ∷ 4 ∷ 5 ∷ 9 ∷ 2 ∷ 0 ∷ 4 ∷ 5 ∷ 9 ∷ 0 ∷ [];
       names = 21 ∷ 1 ∷ 0 ∷ 28 ∷ 1 ∷ 0 ∷ 0 ∷ [];
     }
-unfolding loadOf linesOf beforeRows headOf lastFacts factsFrom numberLine keyed startsWith endsBy stands stopAt fieldLength isStop after fieldOf numberOf isEmpty zeroFirst allDigits isDigit decimal bounded linesFrom nameStep nameLine nameOf jumpMark allGraphic isGraphic below rowStep rowAt rowLine rowFields rowFrom fiveFields rowOf kindOf placeFrom same kinds entry sideFits isKind inClass ofClass classNumber takes once many fits hasRoom checkedAnswer finishOf tableOf holds whenHeld firstFrom endsBefore above enclosing endFits depthAt endsAt kindAlone childrenAt rootAt tree treeBy fold
+unfolding loadOf linesOf beforeRows numberStep numberLine keyed startsWith endsBy stands stopAt fieldLength isStop after fieldOf numberOf isEmpty zeroFirst allDigits isDigit decimal bounded linesFrom nameStep nameLine nameOf jumpMark allGraphic isGraphic below rowStep rowAt rowLine rowFields rowFrom fiveFields rowOf kindOf placeFrom same kinds entry sideFits isKind inClass ofClass classNumber takes once many fits hasRoom checkedAnswer finishOf tableOf holds whenHeld firstFrom endsBefore above enclosing endFits depthAt endsAt kindAlone childrenAt rootAt tree treeBy fold
 listing-loads = refl
 
 -- what document 01 says of a load: the refusal's number and its place, with tables for one row and two names unless said
@@ -73,7 +72,7 @@ pub record Refusals : Type 0 where
   pub no-statement : of (one "row=lit 0 0 0 1") ≡ 9 ∷ 9 ∷ []
 
 pub refusals : Refusals
-unfolding refuse loadOf linesOf beforeRows headOf lastFacts factsFrom numberLine keyed startsWith endsBy stands stopAt fieldLength isStop after fieldOf numberOf isEmpty zeroFirst allDigits isDigit decimal bounded linesFrom nameStep nameLine nameOf jumpMark allGraphic isGraphic below rowStep rowAt rowLine rowFields rowFrom fiveFields rowOf kindOf placeFrom same kinds entry sideFits isKind inClass ofClass classNumber takes once many fits hasRoom checkedAnswer finishOf tableOf holds whenHeld firstFrom endsBefore above enclosing endFits depthAt endsAt kindAlone childrenAt rootAt tree treeBy fold
+unfolding refuse loadOf linesOf beforeRows numberStep numberLine keyed startsWith endsBy stands stopAt fieldLength isStop after fieldOf numberOf isEmpty zeroFirst allDigits isDigit decimal bounded linesFrom nameStep nameLine nameOf jumpMark allGraphic isGraphic below rowStep rowAt rowLine rowFields rowFrom fiveFields rowOf kindOf placeFrom same kinds entry sideFits isKind inClass ofClass classNumber takes once many fits hasRoom checkedAnswer finishOf tableOf holds whenHeld firstFrom endsBefore above enclosing endFits depthAt endsAt kindAlone childrenAt rootAt tree treeBy fold
 refusals =
     record {
       good = refl;

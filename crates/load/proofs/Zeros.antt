@@ -1,4 +1,4 @@
--- Tables cleared, from the front or from a place on.
+-- Tables cleared, from the front or from a place on: the part so far is zeros, before what stood there. The places left fall.
 use Prim.Native.Nat.{ℕ, _+_, _-_, _≤_, _<_}
 use mathlib.Core.Path.{_≡_, refl, ap, _∙_}
 use mathlib.Core.List.{List, _++_, append-nil}

@@ -1,15 +1,17 @@
 // Loading: from the bytes of a sheet to two lent tables and a record.
 use checks::Checked;
+use refusals::Refusal;
 use sheet::Loaded;
-use sheet::Refusal;
 use sheet_record::Record;
 ghost use mathlib.Core.Path.{_≡_};
 ghost use mathlib.Core.List.{_++_};
 ghost use Prim.Native.Nat.{_-_, _≤_};
 ghost use lib.ListN.{length, take, replicate};
-ghost use Rattle.sheet.specs.Load.{checkedAnswer, loadOf};
-ghost use Rattle.sheet.specs.Steps.{Room, GoodFilled, finishFronts, isRefused};
-ghost use Rattle.sheet.specs.Meaning.{LoadMeans};
+ghost use Rattle.checks.specs.declared.Checked.the-variants.{Passed};
+ghost use Rattle.checks.specs.Checks.{fieldsOf};
+ghost use Rattle.sheet.specs.Load.{refusalOf, placeOf, checkedAnswer, loadOf};
+ghost use Rattle.sheet.specs.Steps.{Room, FieldsRead, GoodFilled, finishFronts, isRefused};
+ghost use Rattle.sheet.specs.Meaning.{LoadNumbers, LoadMeans};
 
 fn clear(t: &mut [u32])
     ensures { λ _. ⌜ now (t .exit) ≡ replicate (length (now (t .entry))) 0 ⌝ }
@@ -28,27 +30,22 @@ fn clear_from(t: &mut [u32], at: usize)
     clear(&mut t[at..]);
 }
 
-// The checks of the rows: refusals 7 to 9. One pass tells of most tables that they pass.
+// The check of the rows: refusals 7 to 9. Kinds and side numbers pass, since the lines have passed.
 fn checked_answer(record: Record, rows: &[u32]) -> Loaded
-    requires { ⌜ «record» .names ≤ 500 ⌝ }
+    requires { ⌜ («record» .names ≤ 500) × (fieldsOf (now rows) («record» .rows) («record» .names) ≡ Passed) ⌝ }
     ensures { λ r. ⌜ r ≡ checkedAnswer «record» (now (rows .entry)) ⌝ }
 {
-    if one_pass::passes(rows, record.rows, record.names) {
-        return Loaded::Done(record);
-    }
-    let checked = child_checks::children(rows, record.rows);
+    let checked = checks::check(rows, record.rows, record.names);
     match checked {
         Checked::Passed => Loaded::Done(record),
-        Checked::Refused(fault, row) => Loaded::Refused(
-            Refusal::Rows(fault),
-            sheet::line_of(record, row),
-        ),
+        Checked::Refused(refusal, row) => Loaded::Refused(refusal, sheet::line_of(record, row)),
     }
 }
 
 // Zeros in the unused tails, then the checks.
-fn settle(record: Record, rows: &mut [u32], names: &mut [u32]) -> Loaded
+fn clear_and_check(record: Record, rows: &mut [u32], names: &mut [u32]) -> Loaded
     requires { ⌜ Room «record» (now rows) (now names) ⌝ }
+    requires { ⌜ FieldsRead «record» (now rows) ⌝ }
     ensures { λ r. ⌜ r ≡ finishFronts «record» (now (rows .entry)) (now (names .entry)) .answer ⌝ }
     ensures filled { λ r. ⌜ GoodFilled r (finishFronts «record» (now (rows .entry)) (now (names .entry))) (now (rows .exit)) (now (names .exit)) ⌝ }
 {
@@ -60,6 +57,7 @@ fn settle(record: Record, rows: &mut [u32], names: &mut [u32]) -> Loaded
 // What follows good lines: 21, then what follows where there is room.
 fn finish(record: Record, rows: &mut [u32], names: &mut [u32]) -> Loaded
     requires { ⌜ («record» .rows ≤ 2000) × («record» .names ≤ 500) ⌝ }
+    requires { ⌜ FieldsRead «record» (now rows) ⌝ }
     ensures { λ r. ⌜ r ≡ finishFronts «record» (now (rows .entry)) (now (names .entry)) .answer ⌝ }
     ensures filled { λ r. ⌜ GoodFilled r (finishFronts «record» (now (rows .entry)) (now (names .entry))) (now (rows .exit)) (now (names .exit)) ⌝ }
 {
@@ -69,7 +67,7 @@ fn finish(record: Record, rows: &mut [u32], names: &mut [u32]) -> Loaded
     if names.len() < 3 * record.names {
         return Loaded::Refused(Refusal::NoRoom, 0);
     }
-    settle(record, rows, names)
+    clear_and_check(record, rows, names)
 }
 
 // All of loading but the zeros of a refused one.
@@ -116,6 +114,7 @@ pub fn load(sheet: &[u8], rows: &mut [u32], names: &mut [u32]) -> Loaded
     ensures { λ r. ⌜ r ≡ loadOf (now (sheet .entry)) (length (now (rows .entry))) (length (now (names .entry))) .answer ⌝ }
     ensures row_table { λ r. ⌜ now (rows .exit) ≡ loadOf (now (sheet .entry)) (length (now (rows .entry))) (length (now (names .entry))) .rows ⌝ }
     ensures name_table { λ r. ⌜ now (names .exit) ≡ loadOf (now (sheet .entry)) (length (now (rows .entry))) (length (now (names .entry))) .names ⌝ }
+    ensures numbers { λ r. ⌜ LoadNumbers (refusalOf r) (placeOf r) ⌝ }
     ensures means { λ r. ⌜ LoadMeans r (now (rows .exit)) (now (names .exit)) ⌝ }
 {
     load_tables(sheet, rows, names)

@@ -14,8 +14,8 @@
 use libc::STDIN_FILENO;
 use libc::STDOUT_FILENO;
 use names::Named;
+use refusals::Refusal;
 use sheet::Loaded;
-use sheet::Refusal;
 use sheet_record::Record;
 ghost use Prim.Native.Nat.{_<_};
 ghost use lib.ListN.{length};
@@ -29,7 +29,7 @@ fn number(n: usize) {
 }
 
 fn refusal_number(refusal: Refusal) {
-    number(table::wide(sheet::number_of(refusal)));
+    number(refusals::number_of(refusal));
 }
 
 fn put_plain(out: &mut [u8], from: usize, n: usize) -> usize {
@@ -226,13 +226,16 @@ fn name_case(text: &[u8]) {
     let numbers = case_text::after(text, b'|');
     let asked = case_text::after(numbers, b'|');
     let table_end = case_text::least(build(bytes, case_text::before(numbers, b'|')), bytes.len());
-    let n = case_text::least(case_text::fill(names, &bytes[0..table_end]), names.len());
+    let n = case_text::least(
+        case_text::set_table(names, &bytes[0..table_end]),
+        names.len(),
+    );
     let end = case_text::least(build(bytes, case_text::after(asked, b'|')), bytes.len());
     let built = &bytes[..];
     let lent = &names[..];
     name_of(
         &built[0..end],
-        case_text::record_of(case_text::before(text, b'|')),
+        case_text::read_record(case_text::before(text, b'|')),
         &lent[0..n],
         case_text::decimal(case_text::before(asked, b'|')),
     );

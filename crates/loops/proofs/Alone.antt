@@ -1,4 +1,5 @@
--- What the pass over the rows of one statement says of it among its siblings.
+-- What the pass over the rows of one statement says of it among its siblings: one step of the fold, where there is a row, and none where
+-- not.
 use Prim.Native.Nat.{ℕ, _≤_, _<_}
 use mathlib.Core.Path.{_≡_, refl, _∙_}
 use mathlib.Core.Bool.{Bool, true, false, and-true}
@@ -6,7 +7,8 @@ use mathlib.Core.List.{List}
 use native.Mathlib.Omega.{arith}
 use lib.Dec.{ltb}
 use borrow.Author.Tests.{ltb-true, ltb-false}
-use Rattle.table.specs.Rows.{endAt, tree, Nested, nextOf}
+use Rattle.table.specs.Rows.{endAt, tree, Nested}
+use Rattle.table.specs.Steps.{nextOf}
 use Rattle.table.specs.Fold.{nth}
 use Rattle.table.proofs.Ranges.{ends-after, alone}
 use Rattle.table.proofs.Fold.{fold-none, fold-some}

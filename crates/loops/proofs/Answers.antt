@@ -1,4 +1,5 @@
--- What the functions answer, from what stands in the code where they return.
+-- What the functions answer, from what stands in the code where they return; the loops go from row to row, by the steps of Gather. What
+-- the yes of `stmt_cannot_escape` means, and the arms of the Rust, are cited. Nothing recurses here.
 use Prim.Native.Nat.{ℕ, _+_, _≤_, _<_}
 use mathlib.Core.Path.{_≡_, refl, sym, ap, _∙_}
 use mathlib.Core.Bool.{Bool, true, false, _&&_, _||_, not}

@@ -1,4 +1,5 @@
--- Where a statement, or an arm of a case, holds statements and arms: at some places among its children.
+-- Where a statement, or an arm of a case, holds statements and arms: at some places among its children. What counts at these places is
+-- said child by child; nothing recurses.
 use Prim.Native.Nat.{ℕ, suc}
 use mathlib.Core.Path.{_≡_, refl}
 use mathlib.Core.Bool.{Bool, true, false, _||_, not}

@@ -1,4 +1,5 @@
--- The flat answer of `stmt_cannot_escape` is that of the Rust's arms, at every row of a tree whose children fit.
+-- The flat answer of `stmt_cannot_escape` is that of the Rust's arms, at every row of a tree whose children fit: one test of the table of
+-- kinds says that a child at no place of its class never counts. By induction over the tree (Places).
 use Prim.Native.Nat.{ℕ}
 use mathlib.Core.Path.{_≡_, refl, ap, _∙_}
 use mathlib.Core.Bool.{Bool, true, false, _&&_, _||_, not}

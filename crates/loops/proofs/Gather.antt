@@ -1,4 +1,5 @@
--- What holds at every row of a tree, or at some row of it: one row at a time, in row order.
+-- What holds at every row of a tree, or at some row of it: one row at a time, in row order, since "and" and "or" may be regrouped. By
+-- induction over the list of answers.
 use mathlib.Core.Path.{_≡_, refl, sym, ap, _∙_}
 use mathlib.Core.Bool.{Bool, true, false, _&&_, _||_, and-true, or-false, and-assoc, or-assoc}
 use mathlib.Core.List.{List, [], _∷_, _++_}

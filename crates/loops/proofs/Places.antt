@@ -1,4 +1,5 @@
--- Of a row's children only those at some places count, where the others are of kinds that never do.
+-- Of a row's children only those at some places count, where the others are of kinds that never do. By induction over the items of a kind
+-- and the children that they take; and then over the tree, from the children of a row to the row.
 use Prim.Native.Nat.{ℕ}
 use mathlib.Core.Path.{_≡_, refl, sym, _∙_}
 use mathlib.Core.Bool.{Bool, true, false, cond, _&&_, _||_, not}
@@ -39,9 +40,9 @@ pub data Rows (R : ℕ → Bool → Bool → Type 0) : List ℕ → List Bool �
   row : {k : ℕ} {b d : Bool} {ks : List ℕ} {bs ds : List Bool} → R k b d → Rows R ks bs ds → Rows R (k ∷ ks) (b ∷ bs) (d ∷ ds)
 
 -- what an item takes is of its class, or absent
-pub either : (a b : Bool) → a || b ≡ true → {P : Type 0} → (a ≡ true → P) → (b ≡ true → P) → P
-either true b e p q = p refl
-either false b e p q = q e
+pub by-either : (a b : Bool) → a || b ≡ true → {P : Type 0} → (a ≡ true → P) → (b ≡ true → P) → P
+by-either true b e p q = p refl
+by-either false b e p q = q e
 
 takes-class : (test : ℕ → Bool) (i : Item) (k : ℕ)
     → test 0 ≡ true
@@ -50,7 +51,7 @@ takes-class : (test : ℕ → Bool) (i : Item) (k : ℕ)
     → test (classOf k) ≡ true
 unfolding takes inClass ofClass classNumber
 takes-class test i k z c t =
-    either (i .may-be-absent && inClass absent k) (inClass (i .class) k) t
+    by-either (i .may-be-absent && inClass absent k) (inClass (i .class) k) t
     (λ e. let n = both-true (isKind k) (ofClass absent (entry k)) (both-true (i .may-be-absent) (inClass absent k) e .1) .1 in rw (eqb-true (classOf k) 0 n) z)
     (λ e. let n = both-true (isKind k) (ofClass (i .class) (entry k)) e .1 in rw (eqb-true (classOf k) (classNumber (i .class)) n) c)
 

@@ -1,5 +1,5 @@
--- What stmt_cannot_escape's yes means: no run of the statement jumps. Said as a triple from all written on, where every run is
--- fine, so that it says of a run no more than how it ends.
+-- What stmt_cannot_escape's yes means: no run of the statement jumps. Said as a triple from all written on, where every run is fine, so
+-- that it says of a run no more than how it ends. By induction over the tree, a class at a time.
 use mathlib.Core.Path.{_≡_, sym}
 use mathlib.Core.Bool.{Bool, true, false, cond, _&&_, not}
 use mathlib.Core.List.{List, [], _∷_}
@@ -10,19 +10,19 @@ use Rattle.table.specs.Fold.{fold, nth, tail, Pairwise, no-pair, pair}
 use Rattle.table.proofs.Fold.{related-tail}
 use Rattle.kinds.specs.declared.StmtClass.{StmtClass}
 use Rattle.kinds.specs.declared.StmtClass.the-variants.{Absent, Match, Default, Decl, Blocking, Nonblocking, If, Return, Case, For, While, Repeat, Forever, Block, Fork, Systask, Task, Delayctrl, Eventctrl, Wait, Disable, Null, Unmodelled, NoStmt}
-use Rattle.kinds.specs.Named.{stmtClass, taskEffect}
+use Rattle.kinds.specs.Named.{stmtClass, taskEffect, hasDefault}
 use Rattle.kinds.proofs.Below.{both-true, true-not-false}
 use Rattle.reads.specs.Iffs.{every}
 use Rattle.paths.specs.Marks.{full, ⊑-refl}
 use Rattle.paths.specs.Commands.{PathEvent, Ending, falls, stops, leaves, again, NoJump, out-of-loop, out-of-round, Command, Runs}
-use Rattle.paths.specs.Semantics.{Order, row-order, free-order, InFreeOrder, not-asked, holds, Semantics}
+use Rattle.paths.specs.Semantics.{Order, row-order, free-order, InFreeOrder, not-asked, is-met, Semantics}
 use Rattle.paths.specs.Triples.{Triple, at, never}
 use Rattle.paths.specs.Evaluation.{is-true, Evaluation, noEvaluation}
 use Rattle.paths.specs.Evaluates.{AllEvaluate, no-more}
 use Rattle.paths.proofs.Rules.{good-never, rule-skip, rule-write, rule-read, rule-outside, rule-choice, rule-stops, rule-seq, rule-alt, rule-star, rule-catch-never}
 use Rattle.paths.proofs.Evaluating.{in-order, all-together, evaluates-place, evaluate-tail}
 use Rattle.paths.proofs.Built.{calm-all}
-use Rattle.stmt_paths.specs.Execution.{Execution, plain, noExecution, oneByOne, allLabels, hasDefault, noArm, armsFrom, loop, isPassedOver, byEffect, executionOf, heldAt, heldEvaluations, executionAt, executions, executed}
+use Rattle.stmt_paths.specs.Execution.{Execution, plain, noExecution, oneByOne, allLabels, noArm, chosenArm, loop, isPassedOver, byEffect, executionOf, heldEvaluationsAt, heldEvaluations, executionAt, executions, executed}
 use Rattle.stmt_paths.proofs.Conditions.{unmet-so}
 use Rattle.stmt_paths.proofs.UnderOrder.{chosen-labels-so, target-keeps, right-keeps, assignment-so, Others, nonblocking-so}
 use Rattle.loops.specs.Escape.{transfers, cannotEscapeAt, cannotEscapes, cannotEscape}
@@ -66,7 +66,7 @@ no-arm-stays : (default : Bool) (n : ℕ) {all : Command} → NeverJumps all →
 no-arm-stays true n h = rule-stops
 no-arm-stays false n h = rule-seq (rule-choice n) h
 
-arms-stay : (o : Order) {bs : List Bool} {rs : List Execution} (n : ℕ) {before all : Command} (default : Bool) → Pairwise Stays bs rs → every bs ≡ true → NeverJumps before → NeverJumps all → NeverJumps (armsFrom o n before all default rs)
+arms-stay : (o : Order) {bs : List Bool} {rs : List Execution} (n : ℕ) {before all : Command} (default : Bool) → Pairwise Stays bs rs → every bs ≡ true → NeverJumps before → NeverJumps all → NeverJumps (chosenArm o n before all default rs)
 unfolding every
 arms-stay o n default no-pair q hb ha = no-arm-stays default n ha
 arms-stay o n default (pair {x = b} {y = r} {xs = bs} h hs) q hb ha =
@@ -95,7 +95,7 @@ module _ (sem : Semantics) (x : ℕ) (marks : ℕ → Bool) (s : ℕ) (cs : Fore
     (calm : AllEvaluate full es) (calm-held : AllEvaluate full (nth [] 0 held)) (below : Pairwise Stays bs rs) where
   others : (o : Order) → InFreeOrder (Others full (nth [] 0 held) (nth noEvaluation 1 es) (nth noEvaluation 2 es)) o
   others row-order = not-asked
-  others free-order = holds (record { delays = calm-held; event = evaluates-place 1 calm .value; selects = evaluates-place 2 calm .value })
+  others free-order = is-met (record { delays = calm-held; event = evaluates-place 1 calm .value; selects = evaluates-place 2 calm .value })
 
   class-stays : (k : StmtClass) → Stays (not (transfers k) && every bs) (executionOf sem x marks k s cs es held rs)
   class-stays Match = record { labels = evaluate-tail calm; run = child-stays 0 below }
@@ -109,7 +109,7 @@ module _ (sem : Semantics) (x : ℕ) (marks : ℕ → Bool) (s : ℕ) (cs : Fore
   class-stays If = unlabelled λ q. rule-alt (rule-seq (evaluates-place 0 calm .truth is-true) (child-stays 1 below q)) (rule-seq (unmet-so (evaluates-place 0 calm)) (child-stays 2 below q))
   class-stays Return = unlabelled λ q. true-not-false (sym q)
   class-stays Disable = unlabelled λ q. true-not-false (sym q)
-  class-stays Case = unlabelled λ q. rule-seq (evaluates-place 0 calm .value) (arms-stay (sem .order) 0 (hasDefault (tail rs)) (related-tail below) (every-tail bs q) rule-skip (labels-stay (related-tail below)))
+  class-stays Case = unlabelled λ q. rule-seq (evaluates-place 0 calm .value) (arms-stay (sem .order) 0 (hasDefault (λ r. r .isDefault) (tail rs)) (related-tail below) (every-tail bs q) rule-skip (labels-stay (related-tail below)))
   class-stays For = unlabelled λ q. rule-seq (child-stays 0 below q) (loop-stays s (evaluates-place 1 calm .truth is-true) (child-stays 3 below q) (child-stays 2 below q) (unmet-so (evaluates-place 1 calm)))
   class-stays While = unlabelled λ q. loop-stays s (evaluates-place 0 calm .truth is-true) (child-stays 1 below q) rule-skip (unmet-so (evaluates-place 0 calm))
   class-stays Repeat = unlabelled λ q. rule-seq (evaluates-place 0 calm .value) (loop-stays s (rule-choice 1) (child-stays 1 below q) rule-skip (rule-choice 0))
@@ -124,7 +124,7 @@ module _ (sem : Semantics) (x : ℕ) (marks : ℕ → Bool) (s : ℕ) (cs : Fore
   class-stays Wait = unlabelled λ q. rule-alt (rule-seq (evaluates-place 0 calm .truth is-true) (child-stays 1 below q)) (rule-seq (unmet-so (evaluates-place 0 calm)) rule-stops)
 
 held-calm : (sem : Semantics) (x n : ℕ) (f : Forest) → AllEvaluate full (nth [] n (heldEvaluations sem x f))
-unfolding fold heldAt
+unfolding fold heldEvaluationsAt
 held-calm sem x n nil = no-more
 held-calm sem x zero (node k s lo hi cs others) = calm-all sem x cs
 held-calm sem x (suc n) (node k s lo hi cs others) = held-calm sem x n others

@@ -1,4 +1,5 @@
--- The flat answer of `stmt_advances_time` is that of the Rust's arms, at every statement of a tree whose children fit.
+-- The flat answer of `stmt_advances_time` is that of the Rust's arms, at every statement of a tree whose children fit: tests of the table
+-- of kinds say that a child at no place of its class lets no time pass. By induction over the tree (Places).
 use Prim.Native.Nat.{ℕ, _<_}
 use mathlib.Core.Path.{_≡_, refl, sym, _∙_}
 use mathlib.Core.Bool.{Bool, true, false, cond, _&&_, _||_, not, or-false}
@@ -20,7 +21,7 @@ use Rattle.reads.specs.Mentions.{some}
 use Rattle.loops.specs.Fitting.{fitting}
 use Rattle.loops.specs.Time.{waitingWords, isOneOf, letsTimePass, advancesAt, advances, isThereAt, timeArm, stmtAdvancesAt}
 use Rattle.loops.proofs.Gather.{by-or}
-use Rattle.loops.proofs.Places.{either, classOf, Told, Rows, suits, places, look, RowStep, rows-related}
+use Rattle.loops.proofs.Places.{by-either, classOf, Told, Rows, suits, places, look, RowStep, rows-related}
 use Rattle.loops.proofs.Bodies.{placesOf, look-first, look-second, look-both, look-two, look-three, if-so, so}
 
 -- delay and intra
@@ -160,7 +161,7 @@ module _ (s : ℕ) (there bs : List Bool) where
   assign-arm : (k : ℕ) → isAssign k ≡ true → timeArm (stmtClass k) k s there bs ≡ nth false 0 there || nth false 1 there
   unfolding stmtClass stmtClassIn stmtWords numbered kindNumber kindOf placeFrom kinds same
   assign-arm k a =
-      either (eqb k (numbered "blocking")) (eqb k (numbered "nonblocking")) a
+      by-either (eqb k (numbered "blocking")) (eqb k (numbered "nonblocking")) a
       (λ e. rw (eqb-true k 11 e))
       (λ e. rw (eqb-true k 12 e))
 

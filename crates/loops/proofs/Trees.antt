@@ -1,4 +1,4 @@
--- Trees that pass the checks are fitting; and what holds of a row whose children let time pass.
+-- Trees that pass the checks are fitting, by induction over the size of the range; and what holds of a row whose children let time pass.
 use Prim.Native.Nat.{ℕ, zero, suc, _+_, _-_, _≤_, _<_}
 use mathlib.Core.Path.{_≡_, refl, sym, _∙_}
 use mathlib.Core.Bool.{Bool, true, false, or-true}

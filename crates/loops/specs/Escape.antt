@@ -6,7 +6,8 @@ use mathlib.Core.Path.{_≡_}
 use Rattle.table.specs.Rows.{endAt, Forest, tree}
 use Rattle.table.specs.Fold.{Alg, fold, nth, tail}
 use Rattle.kinds.specs.declared.StmtClass.{StmtClass}
-use Rattle.kinds.specs.declared.StmtClass.the-variants.{Absent, Match, Default, Decl, Blocking, Nonblocking, If, Return, Case, For, While, Repeat, Forever, Block, Fork, Systask, Task, Delayctrl, Eventctrl, Wait, Disable, Null, Unmodelled, NoStmt}
+use Rattle.kinds.specs.declared.StmtClass.the-variants.{Absent, Match, Default, Decl, Blocking, Nonblocking, If, Return, Case, For, While, Repeat}
+use Rattle.kinds.specs.declared.StmtClass.the-variants.{Forever, Block, Fork, Systask, Task, Delayctrl, Eventctrl, Wait, Disable, Null, Unmodelled, NoStmt}
 use Rattle.kinds.specs.Named.{stmtClass}
 use Rattle.reads.specs.Iffs.{every}
 use Rattle.paths.specs.Commands.{PathEvent, Ending, NoJump, Runs}
@@ -103,6 +104,9 @@ stmtCannotEscape f = nth true 0 (fold stmtCannotEscapeAt f)
 -- what `stmt_cannot_escape` tells
 pub record EscapeTold (rows : List ℕ) (from to : ℕ) (r : Bool) : Type 0 where
   -- where it says yes, no run of the first row jumps
-  pub stays : r ≡ true → (sem : Semantics) (x : ℕ) (marks : ℕ → Bool) (t : List PathEvent) (o : Ending) → Runs (executed sem x marks (tree rows from to)) t o → NoJump o
+  pub stays : r ≡ true
+      → (sem : Semantics) (x : ℕ) (marks : ℕ → Bool) (t : List PathEvent) (o : Ending)
+      → Runs (executed sem x marks (tree rows from to)) t o
+      → NoJump o
   -- of a row alone, with children that fit at every row, the answer is that of the Rust's arms
   pub arms : fitting (tree rows from to) ≡ true → from < to → to ≡ endAt rows from → r ≡ stmtCannotEscape (tree rows from to)

@@ -9,7 +9,8 @@ use Rattle.table.specs.Rows.{kindAt, endAt, Forest, tree}
 use Rattle.table.specs.Fold.{Alg, fold, nth, tail}
 use Rattle.kinds.specs.Kinds.{S, inClass}
 use Rattle.kinds.specs.declared.StmtClass.{StmtClass}
-use Rattle.kinds.specs.declared.StmtClass.the-variants.{Absent, Match, Default, Decl, Blocking, Nonblocking, If, Return, Case, For, While, Repeat, Forever, Block, Fork, Systask, Task, Delayctrl, Eventctrl, Wait, Disable, Null, Unmodelled, NoStmt}
+use Rattle.kinds.specs.declared.StmtClass.the-variants.{Absent, Match, Default, Decl, Blocking, Nonblocking, If, Return, Case, For, While, Repeat}
+use Rattle.kinds.specs.declared.StmtClass.the-variants.{Forever, Block, Fork, Systask, Task, Delayctrl, Eventctrl, Wait, Disable, Null, Unmodelled, NoStmt}
 use Rattle.kinds.specs.Named.{numbered, stmtClass}
 use Rattle.reads.specs.Mentions.{some}
 use Rattle.loops.specs.Fitting.{fitting}

@@ -1,4 +1,4 @@
--- After a good load the call of a name gives back the text of its line.
+-- After a good load the call of a name gives back the text of its line: the tests of the call pass by what loading tells of its tables.
 use Prim.Native.Nat.{ℕ, _+_, _*_, _≤_, _<_}
 use mathlib.Core.Path.{_≡_, _∙_}
 use mathlib.Core.List.{List}
@@ -7,7 +7,7 @@ use borrow.Author.Tests.{le-leb, lt-ltb}
 use Rattle.text.specs.Fields.{field}
 use Rattle.sheet_record.specs.declared.Record.{Record}
 use Rattle.sheet_record.specs.Records.{offsetAt, sizeAt, textAt}
-use Rattle.sections.proofs.ReadLaws.{NameEntry}
+use Rattle.sheet.proofs.ReadLaws.{NameEntry}
 use Rattle.sheet.specs.declared.Loaded.the-variants.{Done}
 use Rattle.sheet.specs.Load.{loadOf}
 use Rattle.sheet.specs.Meaning.{Asked}

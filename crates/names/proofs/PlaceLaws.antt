@@ -1,20 +1,20 @@
--- A name's place, test by test.
+-- A name's place, test by test, and what it means, by cases of its tests.
 use Prim.Native.Nat.{ℕ, _+_, _-_, _*_, _≤_, _<_}
-use mathlib.Core.Path.{_≡_, sym, _∙_}
-use mathlib.Core.Bool.{Bool, true, false, not}
+use mathlib.Core.Path.{_≡_, refl, sym, _∙_}
+use mathlib.Core.Bool.{Bool, true, false, not, cond, _&&_}
 use mathlib.Core.List.{List, []}
 use native.Mathlib.Omega.{arith}
-use lib.Dec.{leb}
+use lib.Dec.{leb, ltb}
 use lib.ListN.{length, take, drop}
 use Rattle.sheet_record.specs.Records.{recordFits, offsetAt, sizeAt}
 use Rattle.sheet_record.proofs.Ranges.{few-names}
 use borrow.Author.Tests.{le-leb, lt-leb, leb-true, lt-ltb, le-ltb, not-true, not-false}
 use Rattle.sheet_record.specs.declared.Record.{Record}
-use Rattle.sheet.specs.declared.Refusal.{Refusal}
-use Rattle.sheet.specs.declared.Refusal.the-variants.{WrongRecord, NoName}
+use Rattle.refusals.specs.declared.Refusal.{Refusal}
+use Rattle.refusals.specs.declared.Refusal.the-variants.{WrongRecord, NoName}
 use Rattle.names.specs.declared.Named.{Named}
 use Rattle.names.specs.declared.Named.the-variants.{At, Refused}
-use Rattle.names.specs.NameText.{namePlace, partAt, textOf}
+use Rattle.names.specs.NameText.{namePlace, partAt, textOf, refusalIn, NameNumbers, found, wrong-record, no-name, NameMeans}
 
 -- the place
 module _ (s : List ℕ) (r : Record) (table : List ℕ) (i : ℕ) (b : Bool) (q : b ≡ recordFits r) where
@@ -49,6 +49,30 @@ module _ (s : List ℕ) (r : Record) (table : List ℕ) (i : ℕ) (b : Bool) (q 
         pub place-at : offset ≤ length s → size ≤ length s - offset → At offset size ≡ namePlace s r table i
         unfolding namePlace
         place-at k l = rw (← q, not-false b n, ← p, not-false c m, lt-ltb i (r .names) h, ← x, ← y, le-leb (offset + size) (length s) (omega arith))
+
+-- what the place means
+module _ (s : List ℕ) (r : Record) (table : List ℕ) (i : ℕ) where
+  chosen : (P : Named → Type 0) → ((offset size : ℕ) → offset + size ≤ length s → P (At offset size)) → P (Refused NoName) → P (Refused WrongRecord) → P (namePlace s r table i)
+  unfolding namePlace
+  chosen P at none wrong = record-fits (recordFits r && leb (3 * r .names) (length table))
+    where
+      listed : (b c : Bool) → leb (offsetAt table i + sizeAt table i) (length s) ≡ c → P (cond (b && c) (At (offsetAt table i) (sizeAt table i)) (Refused NoName))
+      listed true true e = at (offsetAt table i) (sizeAt table i) (leb-true _ _ e)
+      listed true false e = none
+      listed false c e = none
+
+      record-fits : (b : Bool) → P (cond b (cond (ltb i (r .names) && leb (offsetAt table i + sizeAt table i) (length s)) (At (offsetAt table i) (sizeAt table i)) (Refused NoName)) (Refused WrongRecord))
+      record-fits true = listed (ltb i (r .names)) (leb (offsetAt table i + sizeAt table i) (length s)) refl
+      record-fits false = wrong
+
+  pub place-numbers : (p : Named) → p ≡ namePlace s r table i → NameNumbers (refusalIn p)
+  place-numbers p e = rw e (chosen (λ (n : Named). NameNumbers (refusalIn n)) (λ offset size h. found refl) (no-name refl) (wrong-record refl))
+
+  pub place-means : (p : Named) → p ≡ namePlace s r table i → NameMeans s p
+  place-means p e = rw e (chosen (NameMeans s) (λ offset size h. record { within = λ o n q. let a : offset ≡ o = cc in let b : size ≡ n = cc in omega arith }) (nowhere NoName) (nowhere WrongRecord))
+    where
+      nowhere : (refusal : Refusal) → NameMeans s (Refused refusal)
+      nowhere refusal = record { within = λ offset size q. absurd (let z : _≡_ {A = ℕ} 0 1 = cc in omega arith) }
 
 -- a part of a sheet
 module _ (s : List ℕ) (at size : ℕ) where

@@ -1,12 +1,14 @@
 -- A name's text as a part of the sheet: document 01, "A third call returns a name's text", refusals 22 and 24. Definitions only.
-use Prim.Native.Nat.{ℕ, _+_, _*_}
+use Prim.Native.Nat.{ℕ, _+_, _*_, _≤_}
+use mathlib.Core.Path.{_≡_}
 use mathlib.Core.Bool.{cond, _&&_}
 use mathlib.Core.List.{List, []}
 use lib.Dec.{leb, ltb}
 use lib.ListN.{length, take, drop}
 use Rattle.sheet_record.specs.Records.{recordFits, offsetAt, sizeAt}
 use Rattle.sheet_record.specs.declared.Record.{Record}
-use Rattle.sheet.specs.declared.Refusal.the-variants.{WrongRecord, NoName}
+use Rattle.refusals.specs.declared.Refusal.the-variants.{WrongRecord, NoName}
+use Rattle.refusals.specs.Refusals.{refusalNumber}
 use Rattle.names.specs.declared.Named.{Named}
 use Rattle.names.specs.declared.Named.the-variants.{At, Refused}
 
@@ -32,3 +34,18 @@ partOf s (Refused refusal) = []
 -- "A third call returns a name's text"
 unfoldable pub textOf : List ℕ → Record → List ℕ → ℕ → List ℕ
 textOf s r table i = partOf s (namePlace s r table i)
+
+-- what the place of a name is in numbers: 0 where there is one, and else the refusal's
+abbrev pub refusalIn : Named → ℕ
+refusalIn (At offset size) = 0
+refusalIn (Refused refusal) = refusalNumber refusal
+
+-- "22 (ask, name)", "24 (name)", and no other
+pub data NameNumbers (number : ℕ) : Type 0 where
+  found : number ≡ 0 → NameNumbers number
+  wrong-record : number ≡ 22 → NameNumbers number
+  no-name : number ≡ 24 → NameNumbers number
+
+-- what the place of a name means to whoever has the sheet: it lies in the bytes lent
+pub record NameMeans (s : List ℕ) (r : Named) : Type 0 where
+  pub within : (offset size : ℕ) → r ≡ At offset size → offset + size ≤ length s

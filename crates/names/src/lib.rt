@@ -1,8 +1,8 @@
 // A name's text, from the record and the name table that loading gave and the bytes that it loaded.
-use sheet::Refusal;
+use refusals::Refusal;
 use sheet_record::Record;
 ghost use mathlib.Core.Path.{_≡_};
-ghost use Rattle.names.specs.NameText.{namePlace, partAt, textOf};
+ghost use Rattle.names.specs.NameText.{namePlace, partAt, textOf, refusalIn, NameNumbers, NameMeans};
 
 // Where a name stands in the sheet, as offset and length, or the refusal.
 pub enum Named {
@@ -10,8 +10,7 @@ pub enum Named {
     Refused(Refusal),
 }
 
-// The place of a name in the bytes that the sheet was loaded from.
-pub fn name_place(sheet: &[u8], record: Record, names: &[u32], number: usize) -> Named
+fn look_up(sheet: &[u8], record: Record, names: &[u32], number: usize) -> Named
     ensures { λ r. ⌜ r ≡ namePlace (now (sheet .entry)) «record» (now (names .entry)) number ⌝ }
 {
     if !sheet_record::record_fits(record) {
@@ -32,6 +31,15 @@ pub fn name_place(sheet: &[u8], record: Record, names: &[u32], number: usize) ->
         return Named::Refused(Refusal::NoName);
     }
     Named::At(offset, size)
+}
+
+// The place of a name in the bytes that the sheet was loaded from.
+pub fn name_place(sheet: &[u8], record: Record, names: &[u32], number: usize) -> Named
+    ensures { λ r. ⌜ r ≡ namePlace (now (sheet .entry)) «record» (now (names .entry)) number ⌝ }
+    ensures numbers { λ r. ⌜ NameNumbers (refusalIn r) ⌝ }
+    ensures means { λ r. ⌜ NameMeans (now (sheet .entry)) r ⌝ }
+{
+    look_up(sheet, record, names, number)
 }
 
 fn part(s: &[u8], at: usize, size: usize) -> &[u8]

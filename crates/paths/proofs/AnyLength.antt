@@ -1,5 +1,6 @@
--- Lists of any length: of a list that runs one after the other, each member runs where those before it have fallen, and then those
--- after it; in free order all members run in whatever order. The joint facts of Strength and AllOrders know short lists only.
+-- Lists of any length: of a list that runs one after the other, each member runs where those before it have fallen, and then those after
+-- it; in free order all members run in whatever order. The joint facts of Strength and AllOrders know short lists only. By induction over
+-- the members before.
 use mathlib.Core.Path.{_≡_, refl}
 use mathlib.Core.Bool.{false}
 use mathlib.Core.List.{List, [], _∷_, _++_}

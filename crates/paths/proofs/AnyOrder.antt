@@ -1,6 +1,6 @@
--- In any order: the runs are those of every permutation and no others, however many there are; what is so of commands however they are put
--- together is so of them in any order; and the rules of triples. None of some commands needs what another leaves, which is why no
--- order does.
+-- In any order: the runs are those of every permutation and no others, however many there are; what is so of commands however they are
+-- put together is so of them in any order; and the rules of triples. None of some commands needs what another leaves, which is why no
+-- order does. By induction over how many are left to pick.
 use mathlib.Core.Path.{_≡_, refl, sym, ap, _∙_}
 use mathlib.Core.Logic.{_⊎_, inl, inr, ⊎-elim}
 use mathlib.Core.List.{List, [], _∷_, _++_}
@@ -11,7 +11,7 @@ use Rattle.paths.specs.Each.{Each}
 use Rattle.paths.specs.Marks.{Mark, _⊑_}
 use Rattle.paths.specs.Commands.{PathEvent, Ending, falls, Command, skip, seq, alt, Elsewhere, Runs, run-stop, run-seq, run-off, run-left, run-right}
 use Rattle.paths.specs.Triples.{Claim, at, never, Ends, Good, Triple}
-use Rattle.paths.specs.Semantics.{Order, row-order, free-order, InFreeOrder, not-asked, holds}
+use Rattle.paths.specs.Semantics.{Order, row-order, free-order, InFreeOrder, not-asked, is-met}
 use Rattle.paths.specs.AnyOrder.{inTurn, onePicked, picked, anyOrder, eitherFirst}
 use Rattle.paths.proofs.Rules.{lift, rule-skip, rule-seq, rule-alt}
 use Rattle.paths.proofs.Listed.{each-imply}
@@ -153,7 +153,7 @@ module _ (P : Command → Type 0) (of : Composes P) where
 -- what is asked in free order alone
 pub in-free : {P Q : Type 0} {o : Order} → (P → Q) → InFreeOrder P o → InFreeOrder Q o
 in-free f not-asked = not-asked
-in-free f (holds p) = holds (f p)
+in-free f (is-met p) = is-met (f p)
 
 -- Triples
 

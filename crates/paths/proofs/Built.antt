@@ -1,6 +1,6 @@
--- What every evaluation is built of: events one after the other and alternatives, a read only where the row refers. From this
--- the laws that hold for every row: where the local is written any evaluation is fine, and a row that does not refer reads
--- nothing.
+-- What every evaluation is built of: events one after the other and alternatives, a read only where the row refers. From this the laws
+-- that hold for every row: where the local is written any evaluation is fine, and a row that does not refer reads nothing. By induction
+-- over the tree, and over what a command is built of.
 use mathlib.Core.Path.{_≡_, refl, sym, _∙_}
 use mathlib.Core.Bool.{Bool, true, false, cond, _||_}
 use mathlib.Core.List.{List, [], _∷_}
@@ -12,10 +12,10 @@ use Rattle.kinds.specs.declared.ExprClass.{ExprClass}
 use Rattle.kinds.specs.declared.ExprClass.the-variants.{Ident, Call, Lident, Opaque, Event, Unary, Binary, Ternary, Paren, Other}
 use Rattle.kinds.specs.Named.{exprClass}
 use Rattle.kinds.proofs.Below.{true-not-false}
-use Rattle.reads.specs.declared.Iff.the-variants.{Held}
+use Rattle.reads.specs.declared.Iff.the-variants.{Included}
 use Rattle.reads.specs.Mentions.{mentions, refers}
 use Rattle.reads.proofs.Trees.{refers-node, refers-row}
-use Rattle.paths.specs.Marks.{Mark, full, none, _⊑_}
+use Rattle.paths.specs.Marks.{Mark, full, blank, _⊑_}
 use Rattle.paths.specs.Commands.{PathEvent, read, write, choice, Ending, falls, stops, leaves, again, NoJump, Command, skip, emit, seq, alt, Runs, run-stop, run-skip, run-emit, run-emit-stop, run-seq, run-off, run-left, run-right}
 use Rattle.paths.specs.Semantics.{Order, row-order, free-order, Semantics}
 use Rattle.paths.specs.AnyOrder.{eitherFirst}
@@ -172,16 +172,16 @@ module _ (P : PathEvent → Type 0) (pw : P write) (pc : (n : ℕ) → P (choice
     built-class Event q = built-free (search parts)
     built-class Other q = built-free (search parts)
 
-  built : (sem : Semantics) (x : ℕ) (f : Forest) → (refers Held x f ≡ true → P read) → AllBuilt P (evaluations sem x f)
+  built : (sem : Semantics) (x : ℕ) (f : Forest) → (refers Included x f ≡ true → P read) → AllBuilt P (evaluations sem x f)
   unfolding fold evaluationAt
   built sem x nil q = none-left
   built sem x (node k s lo hi cs others) q =
       and-more
-      (built-class sem x s cs (built sem x cs (λ e. here (or-right (mentions x (exprClass k) cs) (refers Held x cs) e))) (exprClass k) (λ e. here (or-left (mentions x (exprClass k) cs) (refers Held x cs) e)))
-      (built sem x others (λ e. q (refers-node Held x k s lo hi cs others ∙ or-right (refers Held x (node k s lo hi cs nil)) (refers Held x others) e)))
+      (built-class sem x s cs (built sem x cs (λ e. here (or-right (mentions x (exprClass k) cs) (refers Included x cs) e))) (exprClass k) (λ e. here (or-left (mentions x (exprClass k) cs) (refers Included x cs) e)))
+      (built sem x others (λ e. q (refers-node Included x k s lo hi cs others ∙ or-right (refers Included x (node k s lo hi cs nil)) (refers Included x others) e)))
     where
-      here : mentions x (exprClass k) cs || refers Held x cs ≡ true → P read
-      here e = q (refers-node Held x k s lo hi cs others ∙ or-left (refers Held x (node k s lo hi cs nil)) (refers Held x others) (refers-row x k s lo hi cs ∙ e))
+      here : mentions x (exprClass k) cs || refers Included x cs ≡ true → P read
+      here e = q (refers-node Included x k s lo hi cs others ∙ or-left (refers Included x (node k s lo hi cs nil)) (refers Included x others) (refers-row x k s lo hi cs ∙ e))
 
 built-silent : {e : Evaluation} → EachBuilt NotRead e → ReadsNothing e
 built-silent h = record {
@@ -206,13 +206,13 @@ module _ (sem : Semantics) (x k s lo hi : ℕ) (cs : Forest) where
       let h = first (built (λ e. Unit) tt (λ n. tt) sem x (node k s lo hi cs nil) (λ e. tt)) in
       record { value = built-calm (h .value); truth = λ t. built-calm (h .truth t); store = built-calm (h .store) }
 
-  module _ (r : refers Held x (node k s lo hi cs nil) ≡ false) where
+  module _ (r : refers Included x (node k s lo hi cs nil) ≡ false) where
     quiet-built : EachBuilt NotRead (evaluationAt sem x k s lo hi cs (evaluations sem x cs))
     unfolding fold
     quiet-built = first (built NotRead tt (λ n. tt) sem x (node k s lo hi cs nil) (λ e. true-not-false (sym e ∙ r)))
 
     -- a row that does not refer is fine from nothing written on
-    pub quiet-row : Evaluates none none (evaluationAt sem x k s lo hi cs (evaluations sem x cs))
+    pub quiet-row : Evaluates blank blank (evaluationAt sem x k s lo hi cs (evaluations sem x cs))
     quiet-row = record { value = built-quiet (quiet-built .value); truth = λ t. built-quiet (quiet-built .truth t); store = built-quiet (quiet-built .store) }
 
     -- and reads nothing

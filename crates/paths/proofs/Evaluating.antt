@@ -1,9 +1,10 @@
--- The rules of triples at the forms of specs/Evaluation.
+-- The rules of triples at the forms of specs/Evaluation: each is put together by a search from the rules of its parts. Lists by induction
+-- over them.
 use mathlib.Core.Bool.{Bool, true, false}
 use mathlib.Core.List.{List}
 use Prim.Native.Nat.{ℕ, zero, suc}
 use Rattle.table.specs.Fold.{nth, tail}
-use Rattle.paths.specs.Marks.{Mark, _⊑_, none, ⊑-refl, ⊑-full, none-⊑}
+use Rattle.paths.specs.Marks.{Mark, _⊑_, blank, ⊑-refl, ⊑-full, blank-⊑}
 use Rattle.paths.specs.Commands.{Command}
 use Rattle.paths.specs.Semantics.{Order, row-order, free-order}
 use Rattle.paths.specs.Triples.{Triple, at, never}
@@ -14,11 +15,11 @@ use Rattle.paths.proofs.Rules.{less, nowhere, weaken, lift, rule-skip, 
 use Rattle.paths.proofs.AnyOrder.{Keeps, rule-any-order, rule-either-first}
 
 -- nothing is known at the end
-pub evaluates-forget : {a b : Mark} {e : Evaluation} → Evaluates a b e → Evaluates a none e
+pub evaluates-forget : {a b : Mark} {e : Evaluation} → Evaluates a b e → Evaluates a blank e
 evaluates-forget h = record {
-  value = weaken ⊑-refl (less none-⊑) nowhere (h .value);
-  truth = λ t. weaken ⊑-refl (less none-⊑) nowhere (h .truth t);
-  store = weaken ⊑-refl (less none-⊑) nowhere (h .store);
+  value = weaken ⊑-refl (less blank-⊑) nowhere (h .value);
+  truth = λ t. weaken ⊑-refl (less blank-⊑) nowhere (h .truth t);
+  store = weaken ⊑-refl (less blank-⊑) nowhere (h .store);
 }
 
 pub evaluates-free : {a b : Mark} {c : Command} → Triple a c (at b) never → Evaluates a b (free c)

@@ -1,4 +1,5 @@
--- The complete runs of a command, listed: what a theorem about all runs cannot notice is missing, a list of runs shows.
+-- The complete runs of a command, listed: what a theorem about all runs cannot notice is missing, a list of runs shows. Each that is
+-- listed is a run, by induction over the command; each run of a command without loops is listed, by induction over the run.
 use mathlib.Core.Path.{_≡_, refl, sym, ap, subst, _∙_}
 use mathlib.Core.Logic.{_⊎_, inl, inr, ⊎-elim}
 use mathlib.Core.Bool.{Bool, true, false, _&&_, _||_}

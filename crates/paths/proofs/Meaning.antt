@@ -1,7 +1,8 @@
--- What a triple says of a run: a read, and what counts as one, has a whole write before it.
+-- What a triple says of a run: a read, and what counts as one, has a whole write before it. By induction over the events before it:
+-- nothing was written at first and all is at the read, so one of them is a write.
 use mathlib.Core.Path.{_≡_, refl, ap, subst}
 use mathlib.Core.List.{List, [], _∷_, _++_, append-nil}
-use Rattle.paths.specs.Marks.{Mark, full, none, _⊑_, ⊑-refl, none-not-full}
+use Rattle.paths.specs.Marks.{Mark, full, blank, _⊑_, ⊑-refl, blank-not-full}
 use Rattle.paths.specs.Commands.{PathEvent, read, write, outside, choice, Ending, falls, Command, Runs}
 use Rattle.paths.specs.Triples.{Good, Claim, at, Ends, Triple}
 use Rattle.paths.specs.Silence.{NotRead}
@@ -22,17 +23,17 @@ read-needs write u P r v g = absurd (r tt)
 read-needs (choice n) u P r v g = absurd (r tt)
 
 -- from nothing written: every read of every run has a write before it
-pub read-is-written : {c : Command} {next jump : Claim} (s u : List PathEvent) (e : PathEvent) (o : Ending) → Triple none c next jump → (NotRead e → ⊥) → Runs c (s ++ (e ∷ u)) o → Written s
+pub read-is-written : {c : Command} {next jump : Claim} (s u : List PathEvent) (e : PathEvent) (o : Ending) → Triple blank c next jump → (NotRead e → ⊥) → Runs c (s ++ (e ∷ u)) o → Written s
 read-is-written {next = next} {jump = jump} s u e o h r x =
-    good-written s (e ∷ u) (Ends next jump o) none (read-needs e u (Ends next jump o) r) none-not-full (h .go none ⊑-refl (s ++ (e ∷ u)) o x)
+    good-written s (e ∷ u) (Ends next jump o) blank (read-needs e u (Ends next jump o) r) blank-not-full (h .go blank ⊑-refl (s ++ (e ∷ u)) o x)
 
 -- so has what counts as a read
-pub outside-is-written : {c : Command} {next jump : Claim} (s u : List PathEvent) (o : Ending) → Triple none c next jump → Runs c (s ++ (outside ∷ u)) o → Written s
+pub outside-is-written : {c : Command} {next jump : Claim} (s u : List PathEvent) (o : Ending) → Triple blank c next jump → Runs c (s ++ (outside ∷ u)) o → Written s
 outside-is-written s u o h x = read-is-written s u outside o h (λ n. n) x
 
 -- and where all is claimed to be written next, a run that goes on has written
-pub fall-is-written : {c : Command} {jump : Claim} (s : List PathEvent) → Triple none c (at full) jump → Runs c s falls → Written s
-fall-is-written {jump = jump} s h x = good-written s [] (Ends (at full) jump falls) none (λ v g. g) none-not-full (rw (append-nil s) (h .go none ⊑-refl s falls x))
+pub fall-is-written : {c : Command} {jump : Claim} (s : List PathEvent) → Triple blank c (at full) jump → Runs c s falls → Written s
+fall-is-written {jump = jump} s h x = good-written s [] (Ends (at full) jump falls) blank (λ v g. g) blank-not-full (rw (append-nil s) (h .go blank ⊑-refl s falls x))
 
 is-read : (e : PathEvent) → IsRead e → NotRead e → ⊥
 is-read read r n = n
@@ -41,7 +42,7 @@ is-read write r n = r
 is-read (choice m) r n = r
 
 -- so of every run from nothing written on
-pub reads-written : {c : Command} {next jump : Claim} {t : List PathEvent} {o : Ending} → Triple none c next jump → Runs c t o → ReadsWritten t
+pub reads-written : {c : Command} {next jump : Claim} {t : List PathEvent} {o : Ending} → Triple blank c next jump → Runs c t o → ReadsWritten t
 reads-written {c} {o = o} h x = record { before = λ s u e q r. read-is-written s u e o h (is-read e r) (subst (λ t. Runs c t o) q x) }
 
 -- What the claim says of a list in terms of its events alone, so that neither "a read" nor "a whole write before it" says less

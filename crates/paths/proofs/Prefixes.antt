@@ -1,4 +1,4 @@
--- A path "may stop anywhere": whatever a run has done up to some event, a run that stops there has done.
+-- A path "may stop anywhere": whatever a run has done up to some event, a run that stops there has done. By induction over the run.
 use mathlib.Core.List.{List, [], _∷_, _++_}
 use Rattle.paths.specs.Commands.{PathEvent, Ending, stops, Jump, out-of-loop, out-of-round, Command, seq, catch, Runs, run-stop, run-skip, run-emit, run-emit-stop, run-exit, run-seq, run-off, run-left, run-right, run-none, run-more, run-catch}
 

@@ -1,11 +1,11 @@
--- The rules of triples: one for each constructor of a command, and those that change a triple. Runs are taken apart here
--- only; every other proof about paths cites these rules. Nothing here knows a kind of row.
+-- The rules of triples: one for each constructor of a command, and those that change a triple. Runs are taken apart here only; every
+-- other proof about paths cites these rules. Nothing here knows a kind of row. By induction over events, and for rounds over the run.
 use mathlib.Core.List.{List, [], _∷_, _++_}
 use Prim.Native.Nat.{ℕ}
 use Rattle.paths.specs.Marks.{Mark, full, _⊑_, ⊑-refl, ⊑-trans, ⊑-full}
 use Rattle.paths.specs.Commands.{PathEvent, read, write, outside, choice, Ending, falls, stops, leaves, again, Jump, out-of-loop, out-of-round, Command, skip, emit, exit, seq, alt, star, catch, caught, Elsewhere, Runs, run-stop, run-skip, run-emit, run-emit-stop, run-exit, run-seq, run-off, run-left, run-right, run-none, run-more, run-catch}
 use Rattle.paths.specs.Silence.{NotRead, Silent}
-use Rattle.paths.specs.Triples.{Fine, writtenAfter, Good, Claim, at, never, Holds, Ends, Triple}
+use Rattle.paths.specs.Triples.{SafeEvent, writtenAfter, Good, Claim, at, never, Holds, Ends, Triple}
 
 -- Lists of events
 
@@ -24,7 +24,7 @@ good-append : (s t : List PathEvent) (P Q : Mark → Type 0) (w : Mark) → ((v 
 good-append [] t P Q w f g = f w g
 good-append (e ∷ s) t P Q w f g = (g .0, good-append s t P Q (writtenAfter e w) f (g .1))
 
-fine-full : (e : PathEvent) (w : Mark) → full ⊑ w → Fine e w
+fine-full : (e : PathEvent) (w : Mark) → full ⊑ w → SafeEvent e w
 fine-full read w p = p
 fine-full outside w p = p
 fine-full write w p = tt
@@ -35,7 +35,7 @@ good-full [] P w p f = f w p
 good-full (e ∷ t) P w p f = (fine-full e w p, good-full t P (writtenAfter e w) (⊑-trans p (grows e w)) f)
 
 -- without a read, every list is good
-fine-silent : (e : PathEvent) (w : Mark) → NotRead e → Fine e w
+fine-silent : (e : PathEvent) (w : Mark) → NotRead e → SafeEvent e w
 fine-silent read w n = absurd n
 fine-silent outside w n = absurd n
 fine-silent write w n = tt
@@ -139,7 +139,7 @@ rule-skip {a} {jump} = record { go = go }
     go w p _ _ run-stop = tt
     go w p _ _ run-skip = p
 
-rule-emit : (e : PathEvent) {a b : Mark} {jump : Claim} → ((w : Mark) → a ⊑ w → Fine e w × (b ⊑ writtenAfter e w)) → Triple a (emit e) (at b) jump
+rule-emit : (e : PathEvent) {a b : Mark} {jump : Claim} → ((w : Mark) → a ⊑ w → SafeEvent e w × (b ⊑ writtenAfter e w)) → Triple a (emit e) (at b) jump
 rule-emit e {a} {b} {jump} f = record { go = go }
   where
     go : (w : Mark) → a ⊑ w → (t : List PathEvent) (o : Ending) → Runs (emit e) t o → Good t (Ends (at b) jump o) w

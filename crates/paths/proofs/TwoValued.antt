@@ -1,5 +1,6 @@
--- Document 01's sentences know two truths. On a run without an unknown choice they are what happens, of operands that come out
--- unknown by such a choice only, as every row does (proofs/Unknown); and what they say can happen.
+-- Document 01's sentences know two truths. On a run without an unknown choice they are what happens, of operands that come out unknown by
+-- such a choice only, as every row does (proofs/Unknown); and what they say can happen. By cases over how the whole comes out; nothing
+-- recurses.
 use mathlib.Core.Logic.{⊎-elim}
 use mathlib.Core.List.{List}
 use Rattle.paths.specs.Commands.{PathEvent, falls, Runs, run-seq, run-left, run-right}

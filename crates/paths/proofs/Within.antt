@@ -1,4 +1,5 @@
--- Every run of one command is a run of another, and the same both ways: rules for what stands in a command, and for regrouping.
+-- Every run of one command is a run of another, and the same both ways: rules for what stands in a command, and for regrouping. A run is
+-- taken apart and put together anew; of rounds by induction over the run.
 use mathlib.Core.List.{List, [], append-nil, append-assoc}
 use mathlib.Core.Path.{subst, sym}
 use Rattle.paths.specs.Commands.{PathEvent, Ending, falls, stops, leaves, again, Jump, Command, skip, seq, alt, star, catch, Runs, run-stop, run-skip, run-seq, run-off, run-left, run-right, run-none, run-more, run-catch}

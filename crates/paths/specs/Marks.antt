@@ -12,9 +12,9 @@ unfolding Mark
 full = true
 
 -- nothing is known to be written
-pub none : Mark
+pub blank : Mark
 unfolding Mark
-none = false
+blank = false
 
 -- whether all of the local is written
 pub isFull : Mark → Bool
@@ -38,11 +38,11 @@ pub ⊑-full : {a : Mark} → a ⊑ full
 unfolding isFull full
 ⊑-full = record { keeps = λ h. tt }
 
-pub none-⊑ : {a : Mark} → none ⊑ a
-unfolding isFull none
-none-⊑ = record { keeps = λ h. absurd h }
+pub blank-⊑ : {a : Mark} → blank ⊑ a
+unfolding isFull blank
+blank-⊑ = record { keeps = λ h. absurd h }
 
 -- nothing written is not all written
-pub none-not-full : full ⊑ none → ⊥
-unfolding isFull full none
-none-not-full p = p .keeps tt
+pub blank-not-full : full ⊑ blank → ⊥
+unfolding isFull full blank
+blank-not-full p = p .keeps tt

@@ -8,7 +8,7 @@ pub data Order : Type 0 where
 -- what is asked in free order alone
 pub data InFreeOrder (P : Type 0) : Order → Type 0 where
   not-asked : InFreeOrder P row-order
-  holds : P → InFreeOrder P free-order
+  is-met : P → InFreeOrder P free-order
 
 -- the parameters of evaluation and execution, in one record
 pub record Semantics : Type 0 where

@@ -4,11 +4,11 @@ use Rattle.paths.specs.Marks.{Mark, full, _⊑_}
 use Rattle.paths.specs.Commands.{PathEvent, read, write, outside, choice, Ending, falls, stops, leaves, again, Command, Runs}
 
 -- demand 3, that every read of the local has a whole write before it, of one event where this much is written
-abbrev pub Fine : PathEvent → Mark → Type 0
-Fine read w = full ⊑ w
-Fine outside w = full ⊑ w
-Fine write w = Unit
-Fine (choice n) w = Unit
+abbrev pub SafeEvent : PathEvent → Mark → Type 0
+SafeEvent read w = full ⊑ w
+SafeEvent outside w = full ⊑ w
+SafeEvent write w = Unit
+SafeEvent (choice n) w = Unit
 
 -- what is written after an event
 abbrev pub writtenAfter : PathEvent → Mark → Mark
@@ -20,7 +20,7 @@ writtenAfter (choice n) w = w
 -- every event of the list is fine, from w on, and P is true of what is written at its end
 abbrev pub Good : List PathEvent → (Mark → Type 0) → Mark → Type 0
 Good [] P w = P w
-Good (e ∷ t) P w = Fine e w × Good t P (writtenAfter e w)
+Good (e ∷ t) P w = SafeEvent e w × Good t P (writtenAfter e w)
 
 -- what is claimed where control goes on: that so much is written there, or that it never goes there
 pub data Claim : Type 0 where

@@ -1,4 +1,5 @@
--- What the functions answer, from what stands in the code where they return.
+-- What the functions answer, from what stands in the code where they return: each law's premises are what the code has found by then.
+-- Nothing recurses here: of a range, Scan and Quiet are cited.
 use Prim.Native.Nat.{ℕ, _+_, _≤_, _<_}
 use mathlib.Core.Path.{_≡_, refl, sym, ap, _∙_}
 use mathlib.Core.Bool.{Bool, true, false}
@@ -8,7 +9,8 @@ use lib.Dec.{eqb}
 use borrow.Author.Tests.{ne-eqb}
 use denote.Enum.Declared.{tagOf}
 use types.Run.{OneOf}
-use Rattle.table.specs.Rows.{kindAt, sideAt, endAt, Forest, tree, Nested, RowEnd, NextRow}
+use Rattle.table.specs.Rows.{kindAt, sideAt, endAt, Forest, tree, Nested}
+use Rattle.table.specs.Steps.{RowEnd, NextRow}
 use Rattle.table.proofs.Ranges.{children}
 use Rattle.table.proofs.Tree.{tree-none, tree-some}
 use Rattle.kinds.specs.declared.ExprClass.{ExprClass}
@@ -23,7 +25,8 @@ use Rattle.reads.specs.declared.Iff.the-variants.{Skipped}
 use Rattle.reads.specs.declared.Mention.{Mention}
 use Rattle.reads.specs.declared.Mention.the-variants.{At, Nowhere}
 use Rattle.reads.specs.PathRows.{isNamed, begins, count, segments}
-use Rattle.reads.specs.Mentions.{roleOf, mentionsBy, hasIff, mentionsAt, skipsIff, mentionIn, MentionTold, AfterQuiet}
+use Rattle.reads.specs.Mentions.{roleOf, mentionsBy, hasIff, mentionsAt, skipsIff, mentionIn, MentionTold}
+use Rattle.reads.specs.Steps.{AfterQuiet}
 use Rattle.reads.specs.NoRef.{exprNoRef, two-segments, not-vetted, vetting, vetted, stmtNoRef}
 use Rattle.reads.proofs.Scan.{orElse, mention-none, mention-here, mention-row, mention-event, found-refers, nowhere-refers, mention-told, next-nested}
 use Rattle.reads.proofs.Quiet.{quiet-same}

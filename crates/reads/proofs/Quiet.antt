@@ -1,4 +1,5 @@
--- Rows that do nothing with the local by themselves: the pass goes on to the next row at once.
+-- Rows that do nothing with the local by themselves: the pass goes on to the next row at once. That the first mention is the same from
+-- the first other row on is shown by induction over how many rows are passed over.
 use Prim.Native.Nat.{ℕ, zero, suc, _+_, _-_, _≤_, _<_}
 use mathlib.Core.Path.{_≡_, refl, sym, ap, _∙_}
 use mathlib.Core.Bool.{Bool, true, false, not}
@@ -17,9 +18,10 @@ use Rattle.kinds.proofs.Named.{ident-is, call-is, lident-is, unary-is, binary-i
 use Rattle.kinds.proofs.Below.{true-not-false}
 use Rattle.reads.specs.declared.Role.the-variants.{ByPath, ByContent}
 use Rattle.reads.specs.declared.Iff.{Iff}
-use Rattle.reads.specs.declared.Iff.the-variants.{Skipped, Held}
+use Rattle.reads.specs.declared.Iff.the-variants.{Skipped, Included}
 use Rattle.reads.specs.PathRows.{isNamed, begins}
-use Rattle.reads.specs.Mentions.{roleOf, mentionsBy, hasIff, skipsIff, refers, mentionIn, Quiet, AllQuiet, AfterQuiet}
+use Rattle.reads.specs.Mentions.{roleOf, mentionsBy, hasIff, skipsIff, refers, mentionIn}
+use Rattle.reads.specs.Steps.{Quiet, AllQuiet, AfterQuiet}
 use Rattle.reads.proofs.Scan.{mention-none, mention-row, nowhere-refers, next-nested}
 
 -- names_other
@@ -119,7 +121,7 @@ pub ruleset quiet-loop = (needs, quiet-start, quiet-next)
 -- the first mention is the same from the first row on that is not passed over
 skips-none : (iff : Iff) (k : ExprClass) → hasIff (roleOf k) ≡ false → skipsIff iff k ≡ false
 skips-none Skipped k e = e
-skips-none Held k e = refl
+skips-none Included k e = refl
 
 quiet-by : (n : ℕ) (iff : Iff) (x : ℕ) {rows : List ℕ} {i to : ℕ} (r : ℕ) → r - i ≤ n → Nested rows i to → i ≤ r → r ≤ to → AllQuiet x rows i r → mentionIn iff x rows i to ≡ mentionIn iff x rows r to
 quiet-by zero iff x {rows} {i} {to} r b g a w q = let e : i ≡ r = omega arith in rw e

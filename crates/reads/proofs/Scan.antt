@@ -1,4 +1,5 @@
--- The flat pass over the rows of a range: what is seen of them row by row, the step of the pass, and what its answer means.
+-- The flat pass over the rows of a range: what is seen of them row by row, the step of the pass, and what its answer means. By induction
+-- over the size of the range (the range of a row's children and that after it are smaller), and over lists of what is seen.
 use Prim.Native.Nat.{ℕ, zero, suc, _+_, _-_, _≤_, _<_}
 use mathlib.Core.Path.{_≡_, refl, sym, ap, _∙_}
 use mathlib.Core.Bool.{Bool, true, false, cond}
@@ -9,7 +10,8 @@ use native.Mathlib.Omega.{arith}
 use lib.Dec.{ltb}
 use lib.ListN.{length, length-append}
 use borrow.Author.Tests.{ltb-true, ltb-false}
-use Rattle.table.specs.Rows.{kindAt, endAt, tree, Nested, nextOf, NextRow}
+use Rattle.table.specs.Rows.{kindAt, endAt, tree, Nested}
+use Rattle.table.specs.Steps.{nextOf, NextRow}
 use Rattle.table.specs.Fold.{fold, nth, tail}
 use Rattle.table.proofs.Ranges.{later, ends-after, ends-within, others, alone, children, next-row, next-none}
 use Rattle.table.proofs.Fold.{fold-none, fold-some, fold-after}

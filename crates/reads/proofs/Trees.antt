@@ -1,4 +1,5 @@
--- The reference test over trees: siblings, a row with what it holds, an event, and what the premise on iff makes of it.
+-- The reference test over trees: siblings, a row with what it holds, an event, and what the premise on iff makes of it: where no iff
+-- refers, leaving them out changes nothing. By induction over the tree.
 use Prim.Native.Nat.{ℕ}
 use mathlib.Core.Path.{_≡_, refl, sym, ap, _∙_}
 use mathlib.Core.Bool.{Bool, true, false, cond, _&&_, _||_, not, or-assoc, or-false}
@@ -12,7 +13,7 @@ use Rattle.kinds.specs.Named.{exprClass, stmtClass}
 use lib.Dec.{eqb}
 use Rattle.kinds.proofs.Below.{both-true, true-not-false}
 use Rattle.reads.specs.declared.Iff.{Iff}
-use Rattle.reads.specs.declared.Iff.the-variants.{Skipped, Held}
+use Rattle.reads.specs.declared.Iff.the-variants.{Skipped, Included}
 use Rattle.reads.specs.Mentions.{roleOf, hasIff, skipsIff, mentions, inRowOrder, passedOver, withoutIff, seenBelow, seenAt, seen, some, refers}
 use Rattle.reads.specs.PathRows.{begins, segments}
 use Rattle.reads.specs.NoRef.{exprNoRef, Vetting, nothing, children, two-segments, not-vetted, vetting, vetted, stmtNoRef}
@@ -64,9 +65,9 @@ refers-event x k s lo hi k′ s′ lo′ hi′ cs iff e =
     refers-seen Skipped x k s lo hi (node k′ s′ lo′ hi′ cs iff)
     ∙ rw (e) (some-append m (passedOver (inRowOrder (fold (seenAt Skipped x) iff))) ∙ rw (some-passed-over (inRowOrder (fold (seenAt Skipped x) iff))) (or-false (some m) ∙ sym (some-append m [] ∙ or-false (some m))))
 
--- where iffs are held: a row refers where it is a mention itself, or holds one
-pub refers-row : (x k s lo hi : ℕ) (cs : Forest) → refers Held x (node k s lo hi cs nil) ≡ mentions x (exprClass k) cs || refers Held x cs
-refers-row x k s lo hi cs = refers-held Held x k s lo hi cs refl
+-- where iffs are included: a row refers where it is a mention itself, or holds one
+pub refers-row : (x k s lo hi : ℕ) (cs : Forest) → refers Included x (node k s lo hi cs nil) ≡ mentions x (exprClass k) cs || refers Included x cs
+refers-row x k s lo hi cs = refers-held Included x k s lo hi cs refl
 
 -- the premise on iff, row by row
 module _ (x k s lo hi : ℕ) (cs others : Forest) (q : iffQuiet x (node k s lo hi cs others) ≡ true) where
@@ -89,10 +90,10 @@ module _ (x k s lo hi : ℕ) (cs others : Forest) (q : iffQuiet x (node k s lo h
   quiet-alone = rw (quiet-parts .0)
 
 -- a first sibling that there may be, and the ones after it
-first-rest : (x : ℕ) (f : Forest) → refers Held x f ≡ some (nth [] 0 (fold (seenAt Held x) f)) || refers Held x (rest f)
+first-rest : (x : ℕ) (f : Forest) → refers Included x f ≡ some (nth [] 0 (fold (seenAt Included x) f)) || refers Included x (rest f)
 unfolding refers seen fold inRowOrder rest some
 first-rest x nil = refl
-first-rest x (node k s lo hi cs others) = some-append (seenAt Held x k s lo hi cs (fold (seenAt Held x) cs)) (seen Held x others)
+first-rest x (node k s lo hi cs others) = some-append (seenAt Included x k s lo hi cs (fold (seenAt Included x) cs)) (seen Included x others)
 
 -- two lists of which one says true somewhere exactly where the other does
 record SameSome (a b : List Bool) : Type 0 where
@@ -104,22 +105,22 @@ same-all no-pair = refl
 same-all (pair {x = a} {y = b} {xs = ms} {ys = ns} h hs) = some-append a (inRowOrder ms) ∙ rw (h .is, same-all hs) (sym (some-append b (inRowOrder ns)))
 
 -- what is seen below a row is the same either way, where it is of its children, and no iff refers
-below-same : (x : ℕ) (cs : Forest) (event : Bool) → not (event && refers Held x (rest cs)) ≡ true
-    → Pairwise SameSome (fold (seenAt Skipped x) cs) (fold (seenAt Held x) cs)
-    → some (cond event (withoutIff (fold (seenAt Skipped x) cs)) (seen Skipped x cs)) ≡ refers Held x cs
+below-same : (x : ℕ) (cs : Forest) (event : Bool) → not (event && refers Included x (rest cs)) ≡ true
+    → Pairwise SameSome (fold (seenAt Skipped x) cs) (fold (seenAt Included x) cs)
+    → some (cond event (withoutIff (fold (seenAt Skipped x) cs)) (seen Skipped x cs)) ≡ refers Included x cs
 unfolding refers seen
 below-same x cs true h p =
     some-append (nth [] 0 (fold (seenAt Skipped x) cs)) (passedOver (inRowOrder (tail (fold (seenAt Skipped x) cs))))
-    ∙ rw (some-passed-over (inRowOrder (tail (fold (seenAt Skipped x) cs))), related-at [] [] 0 (record { is = refl }) p .is) (sym (first-rest x cs ∙ rw (not-true (refers Held x (rest cs)) h)))
+    ∙ rw (some-passed-over (inRowOrder (tail (fold (seenAt Skipped x) cs))), related-at [] [] 0 (record { is = refl }) p .is) (sym (first-rest x cs ∙ rw (not-true (refers Included x (rest cs)) h)))
 below-same x cs false h p = same-all p
 
 row-same : (x k s lo hi : ℕ) (cs : Forest) → iffHere x (exprClass k) cs ≡ true
-    → Pairwise SameSome (fold (seenAt Skipped x) cs) (fold (seenAt Held x) cs)
-    → SameSome (seenAt Skipped x k s lo hi cs (fold (seenAt Skipped x) cs)) (seenAt Held x k s lo hi cs (fold (seenAt Held x) cs))
+    → Pairwise SameSome (fold (seenAt Skipped x) cs) (fold (seenAt Included x) cs)
+    → SameSome (seenAt Skipped x k s lo hi cs (fold (seenAt Skipped x) cs)) (seenAt Included x k s lo hi cs (fold (seenAt Included x) cs))
 unfolding seenAt some seenBelow iffHere refers seen
 row-same x k s lo hi cs h p = record { is = ap (λ b. mentions x (exprClass k) cs || b) (below-same x cs (hasIff (roleOf (exprClass k))) h p) }
 
-same-each : (x : ℕ) (f : Forest) → iffQuiet x f ≡ true → Pairwise SameSome (fold (seenAt Skipped x) f) (fold (seenAt Held x) f)
+same-each : (x : ℕ) (f : Forest) → iffQuiet x f ≡ true → Pairwise SameSome (fold (seenAt Skipped x) f) (fold (seenAt Included x) f)
 unfolding fold
 same-each x nil q = no-pair
 same-each x (node k s lo hi cs others) q =
@@ -127,7 +128,7 @@ same-each x (node k s lo hi cs others) q =
     (same-each x others (quiet-others x k s lo hi cs others q))
 
 -- where no iff refers, it does not matter whether they are looked at
-pub refers-quiet : (x : ℕ) (f : Forest) → iffQuiet x f ≡ true → refers Skipped x f ≡ refers Held x f
+pub refers-quiet : (x : ℕ) (f : Forest) → iffQuiet x f ≡ true → refers Skipped x f ≡ refers Included x f
 unfolding refers seen
 refers-quiet x f q = same-all (same-each x f q)
 

@@ -6,12 +6,12 @@ use Rattle.table.specs.Rows.{Forest, rest}
 use Rattle.table.specs.Fold.{Alg, fold}
 use Rattle.kinds.specs.declared.ExprClass.{ExprClass}
 use Rattle.kinds.specs.Named.{exprClass}
-use Rattle.reads.specs.declared.Iff.the-variants.{Held}
+use Rattle.reads.specs.declared.Iff.the-variants.{Included}
 use Rattle.reads.specs.Mentions.{roleOf, hasIff, refers}
 
 -- the rows after an event's expression, which are its iff, hold no mention
 unfoldable pub iffHere : ℕ → ExprClass → Forest → Bool
-iffHere x k cs = not (hasIff (roleOf k) && refers Held x (rest cs))
+iffHere x k cs = not (hasIff (roleOf k) && refers Included x (rest cs))
 
 -- all of them are true
 unfoldable pub every : List Bool → Bool

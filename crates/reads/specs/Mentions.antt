@@ -4,7 +4,7 @@ use Prim.Native.Nat.{ℕ, _+_, _-_, _≤_, _<_}
 use mathlib.Core.Path.{_≡_}
 use mathlib.Core.Bool.{Bool, true, false, cond, _||_}
 use mathlib.Core.List.{List, [], _∷_, _++_}
-use Rattle.table.specs.Rows.{kindAt, sideAt, endAt, Forest, tree, Nested}
+use Rattle.table.specs.Rows.{kindAt, endAt, Forest, tree}
 use Rattle.table.specs.Fold.{Alg, fold, nth, tail}
 use Rattle.kinds.specs.declared.ExprClass.{ExprClass}
 use Rattle.kinds.specs.declared.ExprClass.the-variants.{Ident, Call, Lident, Opaque, Event, Unary, Binary, Ternary, Paren, Other}
@@ -13,7 +13,7 @@ use Rattle.reads.specs.PathRows.{begins}
 use Rattle.reads.specs.declared.Role.{Role}
 use Rattle.reads.specs.declared.Role.the-variants.{ByPath, Always, HasIff, ByContent}
 use Rattle.reads.specs.declared.Iff.{Iff}
-use Rattle.reads.specs.declared.Iff.the-variants.{Skipped, Held}
+use Rattle.reads.specs.declared.Iff.the-variants.{Skipped, Included}
 use Rattle.reads.specs.declared.Mention.{Mention}
 use Rattle.reads.specs.declared.Mention.the-variants.{At, Nowhere}
 
@@ -63,9 +63,9 @@ unfoldable pub passedOver : List Bool → List Bool
 passedOver [] = []
 passedOver (m ∷ ms) = false ∷ passedOver ms
 
--- "iff ignored" (the walk), or held ("to refer is to be or hold"): whether the iff of a row of this class is left out
+-- "iff ignored" (the walk), or included ("to refer is to be or hold"): whether the iff of a row of this class is left out
 abbrev pub skipsIff : Iff → ExprClass → Bool
-skipsIff Held k = false
+skipsIff Included k = false
 skipsIff Skipped k = hasIff (roleOf k)
 
 -- what is seen of the rows below an event whose iff is left out; its first child is its expression
@@ -101,24 +101,6 @@ firstTrue i (b ∷ bs) = cond b (At i) (firstTrue (i + 1) bs)
 -- the first row, in row order, that is a mention and is looked at, of the rows from `from` up to `to` (document 02, Paper 4)
 unfoldable pub mentionIn : Iff → ℕ → List ℕ → ℕ → ℕ → Mention
 mentionIn iff x rows from to = firstTrue from (seen iff x (tree rows from to))
-
--- row r, as a row of an expression or a target, does nothing with the local by itself: it is no mention, no event, and no call that
--- writes (side 1)
-pub record Quiet (x : ℕ) (rows : List ℕ) (r : ℕ) : Type 0 where
-  pub unmentioning : mentionsAt x rows r ≡ false
-  pub eventless : hasIff (roleOf (exprClass (kindAt rows r))) ≡ false
-  pub unwriting : exprClass (kindAt rows r) ≡ Call → sideAt rows r ≡ 1 → ⊥
-
--- each of the rows from `from` up to `to` is quiet
-abbrev pub AllQuiet : ℕ → List ℕ → ℕ → ℕ → Type 0
-AllQuiet x rows from to = (j : ℕ) → from ≤ j → j < to → Quiet x rows j
-
--- what `after_quiet` tells: the rows from i up to r are passed over, each being quiet; nothing is told of row r
-pub record AfterQuiet (x : ℕ) (rows : List ℕ) (i to r : ℕ) : Type 0 where
-  pub after : i ≤ r
-  pub within : r ≤ to
-  pub nested : Nested rows r to
-  pub quiet : AllQuiet x rows i r
 
 -- row r, of the rows from `from` up to `to`, is itself a mention
 pub record MentionAt (x : ℕ) (rows : List ℕ) (from to r : ℕ) : Type 0 where

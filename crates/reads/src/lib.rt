@@ -8,13 +8,14 @@ ghost use lib.ListN.{length};
 ghost use Rattle.kinds.specs.Named.{exprClass};
 ghost use Rattle.table.specs.Rows.{Nested, tree, kindAt, sideAt};
 ghost use Rattle.reads.specs.PathRows.{begins, segments as segmentsOf};
-ghost use Rattle.reads.specs.Mentions.{roleOf, mentionsAt, skipsIff, mentionIn, MentionTold, Quiet, AfterQuiet};
+ghost use Rattle.reads.specs.Mentions.{roleOf, mentionsAt, skipsIff, mentionIn, MentionTold};
+ghost use Rattle.reads.specs.Steps.{Quiet, AfterQuiet};
 ghost use Rattle.reads.specs.NoRef.{exprNoRef, lvalueNoRef, sensitivityNoRef, intraEventNoRef, stmtNoRef, vetted, two-segments};
 
 // Whether the iff of an event is looked at.
 pub enum Iff {
     Skipped,
-    Held,
+    Included,
 }
 
 // How a row refers: by the path that it has, always, by its expression and, where that is looked at, its iff, or only by what

@@ -1,4 +1,5 @@
--- What each function of the code answers, arm by arm.
+-- What each function of the code answers, arm by arm: the side or the class that the code has found is a premise, so that every answer is
+-- a search. Nothing recurses.
 use Prim.Native.Nat.{ℕ}
 use mathlib.Core.Path.{_≡_}
 use mathlib.Core.Bool.{true, false}

@@ -5,7 +5,8 @@ use effect_rules::Form;
 use effect_rules::RowEffect;
 use kinds::ExprClass;
 ghost use mathlib.Core.Path.{_≡_};
-ghost use Rattle.effect_rules.specs.Rules.{unaryForm, binaryForm, callForm, formOf, combined, guarded, isWhole, noEffect};
+ghost use Rattle.effect_rules.specs.Rules.{unaryForm, binaryForm, callForm, formOf, combined, guarded, noEffect};
+ghost use Rattle.effect_rules.specs.Steps.{isWhole};
 
 fn unary_form(side: usize) -> Form
     ensures { λ r. ⌜ r ≡ unaryForm side ⌝ }

@@ -1,89 +1,93 @@
--- All lines, from what is told of their parts.
+-- All lines, from what is told of their parts: each part that is read is followed by the next, and the first that is refused is the answer.
 use Prim.Native.Nat.{ℕ, _*_, _≤_, _<_}
-use mathlib.Core.Path.{_≡_, refl, sym, ap, _∙_}
+use mathlib.Core.Path.{_≡_, refl, sym, ap, subst, _∙_}
 use mathlib.Core.List.{List}
 use native.Mathlib.Omega.{arith}
-use lib.ListN.{length, take}
+use lib.ListN.{length, take, getD}
 use borrow.Author.Tests.{lt-ltb, le-ltb}
-use Rattle.lines.specs.declared.Fault.{Fault}
-use Rattle.lines.specs.declared.Fault.the-variants.{WrongLine}
+use Rattle.refusals.specs.declared.Refusal.{Refusal}
+use Rattle.refusals.specs.declared.Refusal.the-variants.{WrongLine}
 use Rattle.lines.proofs.InRange.{Ranged}
-use Rattle.sections.specs.declared.Section.{Section}
-use Rattle.sections.specs.declared.Section.the-variants as S
-use Rattle.sections.specs.Sections.{Lines, read, refused, namesFrom, rowsFrom}
-use Rattle.sections.specs.Filling.{sectionOf, Filled}
 use Rattle.sheet_record.specs.declared.Record.{Record}
-use Rattle.sheet.specs.declared.Refusal.{Refusal}
-use Rattle.sheet.specs.declared.Refusal.the-variants.{Line}
 use Rattle.sheet.specs.declared.Loaded.{Loaded}
 use Rattle.sheet.specs.declared.Loaded.the-variants.{Done, Refused}
-use Rattle.header.specs.declared.Head.{Head}
-use Rattle.header.specs.declared.Head.the-variants as H
-use Rattle.header.specs.declared.Facts.{Facts}
-use Rattle.header.specs.declared.Facts.the-variants as F
-use Rattle.header.specs.Header.{headOf, factsFrom}
-use Rattle.sheet.specs.Load.{recordOf, Before, before, stopped, afterHead, afterNames, withNames, beforeRows, parsed, wrong, lineOf, linesOf}
-use Rattle.sheet.specs.Steps.{factsOf, answerOf, NamesFilled, BothFilled}
-use Rattle.header.proofs.FactLaws.{FactsTold, head-told, facts-told}
+use Rattle.sheet.specs.declared.header.Head.{Head}
+use Rattle.sheet.specs.declared.header.Head.the-variants as H
+use Rattle.sheet.specs.declared.header.Facts.{Facts}
+use Rattle.sheet.specs.declared.header.Facts.the-variants as F
+use Rattle.sheet.specs.declared.sections.Section.{Section}
+use Rattle.sheet.specs.declared.sections.Section.the-variants as S
+use Rattle.sheet.specs.Header.{recordBy}
+use Rattle.sheet.specs.Sections.{Lines, read, refused, afterLines, headFrom, namesFrom, factsFrom, rowsFrom}
+use Rattle.sheet.specs.Load.{recordOf, Before, before, stopped, beforeRows, parsed, wrong, lineOf, linesOf}
+use Rattle.sheet.specs.Steps.{sectionOf, Filled, headOf, factsOf, beforeOf, answerOf, NamesFilled, BothFilled}
+use Rattle.sheet.proofs.Going.{section-read, section-refused}
+use Rattle.sheet.proofs.NumberLines.{FactsTold, head-told, facts-told}
 
 apart : {A : Type 0} → _≡_ {A = ℕ} 0 1 → A
 apart z = absurd (omega (arith, z))
 
--- lines that a section was told of
-section-read : (l : Lines) (next : ℕ) → S.Read next ≡ sectionOf l → (numbers : List ℕ) × (l ≡ read numbers next)
-section-read (read numbers n) next e = let z : n ≡ next = cc in (numbers, ap (read numbers) z)
-section-read (refused fault line) next e = apart (cc)
+head-refused : (l : Lines) (refusal : Refusal) (line : ℕ) → H.Refused refusal line ≡ headOf l → l ≡ refused refusal line
+head-refused (read numbers n) refusal line e = apart (cc)
+head-refused (refused f m) refusal line e = cc
 
-section-refused : (l : Lines) (fault : Fault) (line : ℕ) → S.Refused fault line ≡ sectionOf l → l ≡ refused fault line
-section-refused (read numbers n) fault line e = apart (cc)
-section-refused (refused f m) fault line e = cc
+head-numbers : (l : Lines) (count at : ℕ) → H.Read count at ≡ headOf l → (head : List ℕ) × ((l ≡ read head at) × (getD head 1 0 ≡ count))
+head-numbers (read numbers n) count at e = let z : n ≡ at = cc in (numbers, (ap (read numbers) z, cc))
+head-numbers (refused f m) count at e = apart (cc)
 
-facts-read : (b : Before) (r : Record) (next : ℕ) → F.Read r next ≡ factsOf b → (numbers : List ℕ) × (b ≡ before r numbers next)
+facts-read : (b : Before) (r : Record) (next : ℕ) → F.Read r next ≡ beforeOf b → (numbers : List ℕ) × (b ≡ before r numbers next)
 facts-read (before q numbers n) r next e = let z : n ≡ next = cc in let y : q ≡ r = cc in (numbers, rw (z, y))
-facts-read (stopped fault line) r next e = apart (cc)
+facts-read (stopped refusal line) r next e = apart (cc)
 
-facts-refused : (b : Before) (fault : Fault) (line : ℕ) → F.Refused fault line ≡ factsOf b → b ≡ stopped fault line
-facts-refused (before q numbers n) fault line e = apart (cc)
-facts-refused (stopped f m) fault line e = cc
+facts-refused : (b : Before) (refusal : Refusal) (line : ℕ) → F.Refused refusal line ≡ beforeOf b → b ≡ stopped refusal line
+facts-refused (before q numbers n) refusal line e = apart (cc)
+facts-refused (stopped f m) refusal line e = cc
 
-not-stopped : {A : Type 0} {fault : Fault} {line : ℕ} {r : Record} {numbers : List ℕ} {next : ℕ} → stopped fault line ≡ before r numbers next → A
+not-stopped : {A : Type 0} {refusal : Refusal} {line : ℕ} {r : Record} {numbers : List ℕ} {next : ℕ} → stopped refusal line ≡ before r numbers next → A
 not-stopped e = apart (cc)
 
 -- the parts of lines before the rows that are right
 pub record BeforeParts (s : List ℕ) (r : Record) (numbers : List ℕ) (next : ℕ) : Type 0 where
+  pub head : List ℕ
+  pub facts : List ℕ
   pub names-at : ℕ
   pub facts-at : ℕ
-  pub head : headOf s ≡ H.Read (r .names) names-at
+  pub first : headFrom s ≡ read head names-at
   pub names : namesFrom (r .names) s names-at ≡ read numbers facts-at
-  pub facts : factsFrom (r .names) s facts-at ≡ F.Read r next
+  pub last : factsFrom (r .names) s facts-at ≡ read facts next
+  pub counted : r .names ≡ getD head 1 0
+  pub is : r ≡ recordBy (r .names) facts
 
 pub before-parts : (s : List ℕ) (r : Record) (numbers : List ℕ) (next : ℕ) → beforeRows s ≡ before r numbers next → BeforeParts s r numbers next
 unfolding beforeRows
-before-parts s r numbers next e = from-head (headOf s) refl e
+before-parts s r numbers next e = from-head (headFrom s) refl e
   where
-    from-facts : (count at : ℕ) (ns : List ℕ) (then : ℕ) → headOf s ≡ H.Read count at → namesFrom count s at ≡ read ns then → (f : Facts) → factsFrom count s then ≡ f → withNames ns f ≡ before r numbers next → BeforeParts s r numbers next
-    from-facts count at ns then h n (F.Read q m) f e =
+    from-facts : (head : List ℕ) (at : ℕ) (ns : List ℕ) (then : ℕ) → headFrom s ≡ read head at → namesFrom (getD head 1 0) s at ≡ read ns then → (f : Lines) → factsFrom (getD head 1 0) s then ≡ f → afterLines stopped f (λ facts at. before (recordBy (getD head 1 0) facts) ns at) ≡ before r numbers next → BeforeParts s r numbers next
+    from-facts head at ns then h n (read facts m) f e =
         let w : ns ≡ numbers = cc in
-        let y : q ≡ r = cc in
+        let y : recordBy (getD head 1 0) facts ≡ r = cc in
         let z : m ≡ next = cc in
-        let told : FactsTold count q = facts-told count s then q m f in
-        let same : count ≡ r .names = sym (told .same) ∙ ap (λ (x : Record). x .names) y in
+        let c : getD head 1 0 ≡ r .names = ap (λ (x : Record). x .names) y in
         record {
+          head = head;
+          facts = facts;
           names-at = at;
           facts-at = then;
-          head = h ∙ ap (λ (c : ℕ). H.Read c at) same;
-          names = ap (λ (c : ℕ). namesFrom c s at) (sym same) ∙ n ∙ ap (λ (l : List ℕ). read l then) w;
-          facts = ap (λ (c : ℕ). factsFrom c s then) (sym same) ∙ f ∙ ap (λ (x : Record). F.Read x m) y ∙ ap (F.Read r) z;
+          first = h;
+          names = ap (λ (c : ℕ). namesFrom c s at) (sym c) ∙ n ∙ ap (λ (l : List ℕ). read l then) w;
+          last = ap (λ (c : ℕ). factsFrom c s then) (sym c) ∙ f ∙ ap (read facts) z;
+          counted = sym c;
+          is = sym y ∙ ap (λ (c : ℕ). recordBy c facts) c;
         }
-    from-facts count at ns then h n (F.Refused fault line) f e = not-stopped e
+    from-facts head at ns then h n (refused refusal line) f e = not-stopped e
 
-    from-names : (count at : ℕ) → headOf s ≡ H.Read count at → (l : Lines) → namesFrom count s at ≡ l → afterNames l (λ ns then. withNames ns (factsFrom count s then)) ≡ before r numbers next → BeforeParts s r numbers next
-    from-names count at h (read ns then) n e = from-facts count at ns then h n (factsFrom count s then) refl e
-    from-names count at h (refused fault line) n e = not-stopped e
+    from-names : (head : List ℕ) (at : ℕ) → headFrom s ≡ read head at → (l : Lines) → namesFrom (getD head 1 0) s at ≡ l → afterLines stopped l (λ ns at. afterLines stopped (factsFrom (getD head 1 0) s at) (λ facts at. before (recordBy (getD head 1 0) facts) ns at)) ≡ before r numbers next → BeforeParts s r numbers next
+    from-names head at h (read ns then) n e = from-facts head at ns then h n (factsFrom (getD head 1 0) s then) refl e
+    from-names head at h (refused refusal line) n e = not-stopped e
 
-    from-head : (h : Head) → headOf s ≡ h → afterHead h (λ count at. afterNames (namesFrom count s at) (λ ns then. withNames ns (factsFrom count s then))) ≡ before r numbers next → BeforeParts s r numbers next
-    from-head (H.Read count at) h e = from-names count at h (namesFrom count s at) refl e
-    from-head (H.Refused fault line) h e = not-stopped e
+    from-head : (h : Lines) → headFrom s ≡ h → afterLines stopped h (λ head at. afterLines stopped (namesFrom (getD head 1 0) s at) (λ ns at. afterLines stopped (factsFrom (getD head 1 0) s at) (λ facts at. before (recordBy (getD head 1 0) facts) ns at))) ≡ before r numbers next → BeforeParts s r numbers next
+    from-head (read head at) h e = from-names head at h (namesFrom (getD head 1 0) s at) refl e
+    from-head (refused refusal line) h e = not-stopped e
 
 -- the numbers of the record are in their ranges
 pub record RecordTold (r : Record) : Type 0 where
@@ -93,80 +97,88 @@ pub record RecordTold (r : Record) : Type 0 where
 pub before-told : (s : List ℕ) (r : Record) (numbers : List ℕ) (next : ℕ) → beforeRows s ≡ before r numbers next → RecordTold r
 before-told s r numbers next e =
     let p = before-parts s r numbers next e in
-    record { names = head-told s (r .names) (p .names-at) (p .head); facts = facts-told (r .names) s (p .facts-at) r next (p .facts) }
+    record {
+      names = rw (p .counted) (head-told s (p .head) (p .names-at) (p .first) .names);
+      facts = subst (FactsTold (r .names)) (sym (p .is)) (facts-told (r .names) s (p .facts-at) (p .facts) next (p .last));
+    }
 
-stopped-filled : (s : List ℕ) (fault : Fault) (line : ℕ) (t : List ℕ) → beforeRows s ≡ stopped fault line → NamesFilled s t
-stopped-filled s fault line t e = record { front = λ r numbers next q h. not-stopped (sym e ∙ q) }
-
-before-facts : (s : List ℕ) (count at : ℕ) (numbers : List ℕ) (next : ℕ) → headOf s ≡ H.Read count at → namesFrom count s at ≡ read numbers next → beforeRows s ≡ withNames numbers (factsFrom count s next)
-unfolding beforeRows
-before-facts s count at numbers next h n = rw (h, n)
+stopped-filled : (s : List ℕ) (refusal : Refusal) (line : ℕ) (t : List ℕ) → beforeRows s ≡ stopped refusal line → NamesFilled s t
+stopped-filled s refusal line t e = record { front = λ r numbers next q h. not-stopped (sym e ∙ q) }
 
 -- `read_names`: the head, the names, the facts
-module _ (s : List ℕ) (h : Head) (p : h ≡ headOf s) where
-  head-stops : (fault : Fault) (line : ℕ) → h ≡ H.Refused fault line → beforeRows s ≡ stopped fault line
+module _ (s : List ℕ) (h : Head) (p : h ≡ headOf (headFrom s)) where
+  head-stops : (refusal : Refusal) (line : ℕ) → h ≡ H.Refused refusal line → beforeRows s ≡ stopped refusal line
   unfolding beforeRows
-  head-stops fault line e = rw (← p, e)
+  head-stops refusal line e = rw (head-refused (headFrom s) refusal line (sym e ∙ p))
 
-  pub names-head : (fault : Fault) (line : ℕ) → h ≡ H.Refused fault line → F.Refused fault line ≡ factsOf (beforeRows s)
-  names-head fault line e = rw (head-stops fault line e)
+  pub names-head : (refusal : Refusal) (line : ℕ) → h ≡ H.Refused refusal line → F.Refused refusal line ≡ beforeOf (beforeRows s)
+  names-head refusal line e = rw (head-stops refusal line e)
 
-  pub head-filled : (fault : Fault) (line : ℕ) (t : List ℕ) → h ≡ H.Refused fault line → NamesFilled s t
-  head-filled fault line t e = stopped-filled s fault line t (head-stops fault line e)
+  pub head-filled : (refusal : Refusal) (line : ℕ) (t : List ℕ) → h ≡ H.Refused refusal line → NamesFilled s t
+  head-filled refusal line t e = stopped-filled s refusal line t (head-stops refusal line e)
 
-  module _ (count at : ℕ) (d : h ≡ H.Read count at) (c : Section) (q : c ≡ sectionOf (namesFrom count s at)) where
-    names-stop : (fault : Fault) (line : ℕ) → c ≡ S.Refused fault line → beforeRows s ≡ stopped fault line
-    unfolding beforeRows
-    names-stop fault line e = rw (← p, d, section-refused (namesFrom count s at) fault line (sym e ∙ q))
+  module _ (count at : ℕ) (d : h ≡ H.Read count at) where
+    first : (head : List ℕ) × ((headFrom s ≡ read head at) × (getD head 1 0 ≡ count))
+    first = head-numbers (headFrom s) count at (sym d ∙ p)
 
-    pub names-section : (fault : Fault) (line : ℕ) → c ≡ S.Refused fault line → F.Refused fault line ≡ factsOf (beforeRows s)
-    names-section fault line e = rw (names-stop fault line e)
+    pub count-most : count ≤ 500
+    count-most = omega (arith, head-told s (first .0) at (first .1 .0) .names .most, first .1 .1)
 
-    pub section-filled : (fault : Fault) (line : ℕ) (t : List ℕ) → c ≡ S.Refused fault line → NamesFilled s t
-    section-filled fault line t e = stopped-filled s fault line t (names-stop fault line e)
+    module _ (c : Section) (q : c ≡ sectionOf (namesFrom (count) s at)) where
+      names-stop : (refusal : Refusal) (line : ℕ) → c ≡ S.Refused refusal line → beforeRows s ≡ stopped refusal line
+      unfolding beforeRows
+      names-stop refusal line e = rw (first .1 .0, first .1 .1, section-refused (namesFrom (count) s at) refusal line (sym e ∙ q))
 
-    module _ (next : ℕ) (e : c ≡ S.Read next) where
-      told : (numbers : List ℕ) × (namesFrom count s at ≡ read numbers next)
-      told = section-read (namesFrom count s at) next (sym e ∙ q)
+      pub names-section : (refusal : Refusal) (line : ℕ) → c ≡ S.Refused refusal line → F.Refused refusal line ≡ beforeOf (beforeRows s)
+      names-section refusal line e = rw (names-stop refusal line e)
 
-      whole : beforeRows s ≡ withNames (told .0) (factsFrom count s next)
-      whole = before-facts s count at (told .0) next (sym p ∙ d) (told .1)
+      pub section-filled : (refusal : Refusal) (line : ℕ) (t : List ℕ) → c ≡ S.Refused refusal line → NamesFilled s t
+      section-filled refusal line t e = stopped-filled s refusal line t (names-stop refusal line e)
 
-      with-facts : (ns : List ℕ) (f : Facts) → f ≡ factsOf (withNames ns f)
-      with-facts ns (F.Read r n) = refl
-      with-facts ns (F.Refused fault line) = refl
+      module _ (next : ℕ) (e : c ≡ S.Read next) where
+        told : (numbers : List ℕ) × (namesFrom (count) s at ≡ read numbers next)
+        told = section-read (namesFrom (count) s at) next (sym e ∙ q)
 
-      pub names-facts : (r : Facts) → r ≡ factsFrom count s next → r ≡ factsOf (beforeRows s)
-      names-facts r t = t ∙ with-facts (told .0) (factsFrom count s next) ∙ ap factsOf (sym whole)
+        whole : beforeRows s ≡ afterLines stopped (factsFrom (count) s next) (λ facts at. before (recordBy (count) facts) (told .0) at)
+        unfolding beforeRows
+        whole = rw (first .1 .0, first .1 .1, told .1)
 
-      pub names-filled : (t : List ℕ) → Filled 3 count (namesFrom count s at) t → NamesFilled s t
-      names-filled t w = record { front = λ r ns n b k. front r ns (before-parts s r ns n b) k }
-        where
-          front : (r : Record) (ns : List ℕ) {n : ℕ} → BeforeParts s r ns n → 3 * r .names ≤ length t → take (3 * r .names) t ≡ ns
-          front r ns parts k =
-              let h : H.Read count at ≡ H.Read (r .names) (parts .names-at) = sym d ∙ p ∙ parts .head in
-              let x : count ≡ r .names = cc in
-              let y : at ≡ parts .names-at = cc in
-              let f : namesFrom count s at ≡ read ns (parts .facts-at) = ap (λ (c : ℕ). namesFrom c s at) x ∙ ap (namesFrom (r .names) s) y ∙ parts .names in
-              ap (λ (c : ℕ). take (3 * c) t) (sym x) ∙ w .front (omega (arith, x, k)) ns (parts .facts-at) f
+        with-facts : (n : ℕ) (ns : List ℕ) (f : Lines) → factsOf n f ≡ beforeOf (afterLines stopped f (λ facts at. before (recordBy n facts) ns at))
+        with-facts n ns (read facts at) = refl
+        with-facts n ns (refused refusal line) = refl
+
+        pub names-facts : (r : Facts) → r ≡ factsOf (count) (factsFrom (count) s next) → r ≡ beforeOf (beforeRows s)
+        names-facts r t = t ∙ with-facts (count) (told .0) (factsFrom (count) s next) ∙ ap beforeOf (sym whole)
+
+        pub names-filled : (t : List ℕ) → Filled 3 (count) (namesFrom (count) s at) t → NamesFilled s t
+        names-filled t w = record { front = λ r ns n b k. front r ns (before-parts s r ns n b) k }
+          where
+            front : (r : Record) (ns : List ℕ) {n : ℕ} → BeforeParts s r ns n → 3 * r .names ≤ length t → take (3 * r .names) t ≡ ns
+            front r ns parts k =
+                let h : read (first .0) at ≡ read (parts .head) (parts .names-at) = sym (first .1 .0) ∙ parts .first in
+                let i : parts .head ≡ first .0 = cc in
+                let x : count ≡ r .names = sym (parts .counted ∙ ap (λ (l : List ℕ). getD l 1 0) i ∙ first .1 .1) in
+                let y : at ≡ parts .names-at = cc in
+                let f : namesFrom (count) s at ≡ read ns (parts .facts-at) = ap (λ (c : ℕ). namesFrom c s at) x ∙ ap (namesFrom (r .names) s) y ∙ parts .names in
+                ap (λ (c : ℕ). take (3 * c) t) (sym x) ∙ w .front (omega (arith, x, k)) ns (parts .facts-at) f
 
 -- `read_lines`: the lines before the rows, and the rows
-not-wrong : {A : Type 0} {fault : Fault} {line : ℕ} {r : Record} {names rows : List ℕ} → wrong fault line ≡ parsed r names rows → A
+not-wrong : {A : Type 0} {refusal : Refusal} {line : ℕ} {r : Record} {names rows : List ℕ} → wrong refusal line ≡ parsed r names rows → A
 not-wrong e = apart (cc)
 
-wrong-filled : (s : List ℕ) (fault : Fault) (line : ℕ) (rows names : List ℕ) → linesOf s ≡ wrong fault line → BothFilled s rows names
-wrong-filled s fault line rows names e = record { row-front = λ r ns rs q h. not-wrong (sym e ∙ q); name-front = λ r ns rs q h. not-wrong (sym e ∙ q) }
+wrong-filled : (s : List ℕ) (refusal : Refusal) (line : ℕ) (rows names : List ℕ) → linesOf s ≡ wrong refusal line → BothFilled s rows names
+wrong-filled s refusal line rows names e = record { row-front = λ r ns rs q h. not-wrong (sym e ∙ q); name-front = λ r ns rs q h. not-wrong (sym e ∙ q) }
 
-module _ (s : List ℕ) (f : Facts) (p : f ≡ factsOf (beforeRows s)) where
-  before-stops : (fault : Fault) (line : ℕ) → f ≡ F.Refused fault line → linesOf s ≡ wrong fault line
+module _ (s : List ℕ) (f : Facts) (p : f ≡ beforeOf (beforeRows s)) where
+  before-stops : (refusal : Refusal) (line : ℕ) → f ≡ F.Refused refusal line → linesOf s ≡ wrong refusal line
   unfolding linesOf
-  before-stops fault line e = rw (facts-refused (beforeRows s) fault line (sym e ∙ p))
+  before-stops refusal line e = rw (facts-refused (beforeRows s) refusal line (sym e ∙ p))
 
-  pub lines-before : (fault : Fault) (line : ℕ) → f ≡ F.Refused fault line → Refused (Line fault) line ≡ answerOf (linesOf s)
-  lines-before fault line e = rw (before-stops fault line e)
+  pub lines-before : (refusal : Refusal) (line : ℕ) → f ≡ F.Refused refusal line → Refused refusal line ≡ answerOf (linesOf s)
+  lines-before refusal line e = rw (before-stops refusal line e)
 
-  pub before-filled : (fault : Fault) (line : ℕ) (rows names : List ℕ) → f ≡ F.Refused fault line → BothFilled s rows names
-  before-filled fault line rows names e = wrong-filled s fault line rows names (before-stops fault line e)
+  pub before-filled : (refusal : Refusal) (line : ℕ) (rows names : List ℕ) → f ≡ F.Refused refusal line → BothFilled s rows names
+  before-filled refusal line rows names e = wrong-filled s refusal line rows names (before-stops refusal line e)
 
   module _ (r : Record) (at : ℕ) (d : f ≡ F.Read r at) where
     known : (numbers : List ℕ) × (beforeRows s ≡ before r numbers at)
@@ -179,15 +191,15 @@ module _ (s : List ℕ) (f : Facts) (p : f ≡ factsOf (beforeRows s)) where
     few-names = before-told s r (known .0) at (known .1) .names .most
 
     module _ (c : Section) (q : c ≡ sectionOf (rowsFrom (r .names) (r .rows) s at)) where
-      rows-stop : (fault : Fault) (line : ℕ) → c ≡ S.Refused fault line → linesOf s ≡ wrong fault line
+      rows-stop : (refusal : Refusal) (line : ℕ) → c ≡ S.Refused refusal line → linesOf s ≡ wrong refusal line
       unfolding linesOf
-      rows-stop fault line e = rw (known .1, section-refused (rowsFrom (r .names) (r .rows) s at) fault line (sym e ∙ q))
+      rows-stop refusal line e = rw (known .1, section-refused (rowsFrom (r .names) (r .rows) s at) refusal line (sym e ∙ q))
 
-      pub lines-rows : (fault : Fault) (line : ℕ) → c ≡ S.Refused fault line → Refused (Line fault) line ≡ answerOf (linesOf s)
-      lines-rows fault line e = rw (rows-stop fault line e)
+      pub lines-rows : (refusal : Refusal) (line : ℕ) → c ≡ S.Refused refusal line → Refused refusal line ≡ answerOf (linesOf s)
+      lines-rows refusal line e = rw (rows-stop refusal line e)
 
-      pub rows-filled : (fault : Fault) (line : ℕ) (rows names : List ℕ) → c ≡ S.Refused fault line → BothFilled s rows names
-      rows-filled fault line rows names e = wrong-filled s fault line rows names (rows-stop fault line e)
+      pub rows-filled : (refusal : Refusal) (line : ℕ) (rows names : List ℕ) → c ≡ S.Refused refusal line → BothFilled s rows names
+      rows-filled refusal line rows names e = wrong-filled s refusal line rows names (rows-stop refusal line e)
 
       module _ (end : ℕ) (e : c ≡ S.Read end) where
         read-rows : (numbers : List ℕ) × (rowsFrom (r .names) (r .rows) s at ≡ read numbers end)
@@ -198,7 +210,7 @@ module _ (s : List ℕ) (f : Facts) (p : f ≡ factsOf (beforeRows s)) where
         unfolding linesOf
         extra h = rw (known .1, read-rows .1, lt-ltb end (length s) h)
 
-        pub lines-extra : end < length s → (line : ℕ) → line ≡ lineOf r (r .rows) → Refused (Line WrongLine) line ≡ answerOf (linesOf s)
+        pub lines-extra : end < length s → (line : ℕ) → line ≡ lineOf r (r .rows) → Refused WrongLine line ≡ answerOf (linesOf s)
         lines-extra h line q = rw (extra h, q)
 
         pub extra-filled : (rows names : List ℕ) → end < length s → BothFilled s rows names
@@ -235,4 +247,4 @@ module _ (s : List ℕ) (f : Facts) (p : f ≡ factsOf (beforeRows s)) where
 pub no-record : (a : Loaded) (refusal : Refusal) (line : ℕ) → a ≡ Refused refusal line → record { names = 0; rows = 0; local = 0; start = 0; sole = 0 } ≡ recordOf a
 no-record a refusal line e = rw e
 
-pub ruleset answers = (names-head, head-filled, names-section, section-filled, names-facts, names-filled, lines-before, before-filled, few-rows, few-names, lines-rows, rows-filled, lines-extra, extra-filled, lines-done, done-filled)
+pub ruleset answers = (count-most, names-head, head-filled, names-section, section-filled, names-facts, names-filled, lines-before, before-filled, few-rows, few-names, lines-rows, rows-filled, lines-extra, extra-filled, lines-done, done-filled)

@@ -1,3 +1,5 @@
+pub mod Header
+pub mod Sections
 pub mod Load
 pub mod Steps
 pub mod Meaning

@@ -4,34 +4,18 @@ use Prim.Native.Nat.{ℕ, _+_, _-_, _*_}
 use mathlib.Core.Bool.{Bool, cond, _&&_}
 use mathlib.Core.List.{List, _++_}
 use lib.Dec.{leb, ltb}
-use lib.ListN.{length, replicate}
+use lib.ListN.{length, getD, replicate}
+use Rattle.refusals.specs.declared.Refusal.{Refusal}
+use Rattle.refusals.specs.declared.Refusal.the-variants.{WrongLine, TooLong, NoRoom}
+use Rattle.refusals.specs.Refusals.{refusalNumber}
 use Rattle.checks.specs.declared.Checked.{Checked}
 use Rattle.checks.specs.declared.Checked.the-variants as C
-use Rattle.checks.specs.Checks.{numberOf, childrenOf}
-use Rattle.lines.specs.declared.Fault.{Fault}
-use Rattle.lines.specs.declared.Fault.the-variants.{WrongLine}
-use Rattle.lines.specs.Lines.{faultNumber}
-use Rattle.header.specs.Header.{headOf, factsFrom}
-use Rattle.sections.specs.Sections.{Lines, read, refused, namesFrom, rowsFrom}
+use Rattle.checks.specs.Checks.{childrenOf}
 use Rattle.sheet_record.specs.declared.Record.{Record}
-use Rattle.sheet.specs.declared.Refusal.{Refusal}
-use Rattle.sheet.specs.declared.Refusal.the-variants.{TooLong, Line, NoRoom, Rows, WrongRecord, WrongTable, NoName}
 use Rattle.sheet.specs.declared.Loaded.{Loaded}
 use Rattle.sheet.specs.declared.Loaded.the-variants.{Done, Refused}
-use Rattle.header.specs.declared.Head.{Head}
-use Rattle.header.specs.declared.Head.the-variants as H
-use Rattle.header.specs.declared.Facts.{Facts}
-use Rattle.header.specs.declared.Facts.the-variants as F
-
--- document 01's number of each refusal
-abbrev pub refusalNumber : Refusal → ℕ
-refusalNumber TooLong = 10
-refusalNumber (Line fault) = faultNumber fault
-refusalNumber NoRoom = 21
-refusalNumber (Rows fault) = numberOf fault
-refusalNumber WrongRecord = 22
-refusalNumber WrongTable = 23
-refusalNumber NoName = 24
+use Rattle.sheet.specs.Header.{recordBy, firstRow}
+use Rattle.sheet.specs.Sections.{Lines, afterLines, headFrom, namesFrom, factsFrom, rowsFrom}
 
 -- what each answer is in numbers: the refusal's number, 0 for a good load; the place, "a line number from 1, or 0"; and the
 -- record, zeros where it is refused
@@ -51,49 +35,34 @@ recordOf (Refused refusal line) = record { names = 0; rows = 0; local = 0; start
 -- and its line
 pub data Before : Type 0 where
   before : Record → (names : List ℕ) → (next : ℕ) → Before
-  stopped : Fault → (line : ℕ) → Before
+  stopped : Refusal → (line : ℕ) → Before
 
-abbrev pub afterHead : Head → (ℕ → ℕ → Before) → Before
-afterHead (H.Read names next) more = more names next
-afterHead (H.Refused fault line) more = stopped fault line
-
-abbrev pub afterNames : Lines → (List ℕ → ℕ → Before) → Before
-afterNames (read numbers next) more = more numbers next
-afterNames (refused fault line) more = stopped fault line
-
-abbrev pub withNames : List ℕ → Facts → Before
-withNames numbers (F.Read r next) = before r numbers next
-withNames numbers (F.Refused fault line) = stopped fault line
-
--- "Order: `sheet=1`, `names=`, that many `name=`, `local=`, `start=`, `sole=`, `rows=`"
+-- "Order: `sheet=1`, `names=`, that many `name=`, `local=`, `start=`, `sole=`, `rows=`"; the count of names is the second number
 unfoldable pub beforeRows : List ℕ → Before
 beforeRows s =
-    afterHead (headOf s)
-    (λ names at. afterNames (namesFrom names s at)
-    (λ numbers at. withNames numbers (factsFrom names s at)))
+    afterLines stopped (headFrom s)
+    (λ head at. afterLines stopped (namesFrom (getD head 1 0) s at)
+    (λ names at. afterLines stopped (factsFrom (getD head 1 0) s at)
+    (λ facts at. before (recordBy (getD head 1 0) facts) names at)))
 
 -- what all lines tell
 pub data Parsed : Type 0 where
   parsed : Record → (names rows : List ℕ) → Parsed
-  wrong : Fault → (line : ℕ) → Parsed
+  wrong : Refusal → (line : ℕ) → Parsed
 
 abbrev pub afterBefore : Before → (Record → List ℕ → ℕ → Parsed) → Parsed
 afterBefore (before r numbers next) more = more r numbers next
-afterBefore (stopped fault line) more = wrong fault line
+afterBefore (stopped refusal line) more = wrong refusal line
 
-abbrev pub afterRows : Lines → (List ℕ → ℕ → Parsed) → Parsed
-afterRows (read numbers next) more = more numbers next
-afterRows (refused fault line) more = wrong fault line
-
--- the line on which a row stands: six lines and the names stand before row 0
+-- the line on which a row stands
 abbrev pub lineOf : Record → ℕ → ℕ
-lineOf r row = r .names + 7 + row
+lineOf r row = firstRow (r .names) + row
 
 -- "that many `row=`", and no more: "1: missing or extra line"
 unfoldable pub linesOf : List ℕ → Parsed
 linesOf s =
     afterBefore (beforeRows s)
-    (λ r names at. afterRows (rowsFrom (r .names) (r .rows) s at)
+    (λ r names at. afterLines wrong (rowsFrom (r .names) (r .rows) s at)
     (λ rows at. cond (ltb at (length s)) (wrong WrongLine (lineOf r (r .rows))) (parsed r names rows)))
 
 -- what a load gives: the answer, and what both tables hold
@@ -117,7 +86,7 @@ hasRoom rowRoom nameRoom r = leb (5 * r .rows) rowRoom && leb (3 * r .names) nam
 -- "7 and 8 in row order, 7 before 8; then 9 in row order", each at the line of its row
 abbrev pub afterChecks : Checked → Record → Loaded
 afterChecks C.Passed r = Done r
-afterChecks (C.Refused fault row) r = Refused (Rows fault) (lineOf r row)
+afterChecks (C.Refused refusal row) r = Refused refusal (lineOf r row)
 
 -- the answer for lines that were read into tables with room
 unfoldable pub checkedAnswer : Record → List ℕ → Loaded
@@ -136,7 +105,7 @@ finishOf rowRoom nameRoom r nameNumbers rowNumbers =
     (refuse rowRoom nameRoom NoRoom 0)
 
 abbrev pub afterParse : ℕ → ℕ → Parsed → Result
-afterParse rowRoom nameRoom (wrong fault line) = refuse rowRoom nameRoom (Line fault) line
+afterParse rowRoom nameRoom (wrong refusal line) = refuse rowRoom nameRoom refusal line
 afterParse rowRoom nameRoom (parsed r nameNumbers rowNumbers) = finishOf rowRoom nameRoom r nameNumbers rowNumbers
 
 -- "Order: 10; then 1 to 6, first line first, lowest number on one line; 21; then 7 and 8 in row order, 7 before 8; then 9 in row order"

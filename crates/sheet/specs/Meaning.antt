@@ -8,7 +8,7 @@ use Rattle.checks.specs.declared.Checked.the-variants as C
 use Rattle.checks.specs.Checks.{fieldsOf, endsOf, childrenOf}
 use Rattle.sheet_record.specs.declared.Record.{Record}
 use Rattle.sheet_record.specs.Records.{recordFits, markAt}
-use Rattle.sheet.specs.declared.Refusal.{Refusal}
+use Rattle.refusals.specs.declared.Refusal.{Refusal}
 use Rattle.sheet.specs.declared.Loaded.{Loaded}
 use Rattle.sheet.specs.declared.Loaded.the-variants.{Done, Refused}
 
@@ -21,6 +21,13 @@ pub record Asked (r : Record) (rows names : List ℕ) : Type 0 where
   pub fields : fieldsOf rows (r .rows) (r .names) ≡ C.Passed
   pub ends : endsOf rows (r .rows) ≡ C.Passed
   pub children : childrenOf rows (r .rows) ≡ C.Passed
+
+-- what a load tells in numbers: "The place is a line number from 1 .., or 0 for refusal 10", and 21, "told no place", has 0
+pub data LoadNumbers (number place : ℕ) : Type 0 where
+  loaded : number ≡ 0 → place ≡ 0 → LoadNumbers number place
+  of-line : 1 ≤ number → number ≤ 9 → 1 ≤ place → LoadNumbers number place
+  too-long : number ≡ 10 → place ≡ 0 → LoadNumbers number place
+  no-room : number ≡ 21 → place ≡ 0 → LoadNumbers number place
 
 -- a refusal leaves zeros in both tables; a good load leaves tables that pass every check of asking
 pub record LoadMeans (answer : Loaded) (rows names : List ℕ) : Type 0 where

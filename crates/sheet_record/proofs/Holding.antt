@@ -1,4 +1,5 @@
--- What record_held and marks_fit answer, from what stands in the code where they return.
+-- What record_held and marks_fit answer, from what stands in the code where they return. The marks are told from the front and defined from the
+-- back, so one that is wrong is found by induction on their count; in the loop the names left fall.
 use Prim.Native.Nat.{ℕ, zero, suc, _+_, _*_, _≤_, _<_}
 use mathlib.Core.Path.{_≡_, refl, sym, _∙_}
 use mathlib.Core.Bool.{Bool, true, false, not, and-false}

@@ -1,4 +1,4 @@
--- The ranges of a record's numbers, test by test.
+-- The ranges of a record's numbers, test by test: a law for each place where the code returns, and the ranges read off a record that fits.
 use Prim.Native.Nat.{_≤_, _<_}
 use mathlib.Core.Path.{_≡_, sym, _∙_}
 use mathlib.Core.Bool.{Bool, true, false, not, _&&_, and-eq-true-iff, and-false}

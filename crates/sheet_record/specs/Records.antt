@@ -9,7 +9,9 @@ use Rattle.sheet_record.specs.declared.Record.{Record}
 -- "22: the record has counts outside the ranges of 3, a local not below names, a start or sole above 1"
 unfoldable pub recordFits : Record → Bool
 recordFits r =
-    leb 1 (r .names) && (leb (r .names) 500 && (leb 1 (r .rows) && (leb (r .rows) 2000 && (ltb (r .local) (r .names) && (leb (r .start) 1 && leb (r .sole) 1)))))
+    leb 1 (r .names) && (leb (r .names) 500
+    && (leb 1 (r .rows) && (leb (r .rows) 2000
+    && (ltb (r .local) (r .names) && (leb (r .start) 1 && leb (r .sole) 1)))))
 
 -- "or tables too short for it", which is 22 as well: tables of so many numbers
 unfoldable pub recordHeld : Record → ℕ → ℕ → Bool

@@ -1,10 +1,12 @@
--- The arms of a case: what the walk claims of them holds whichever is chosen.
+-- The arms of a case: what the walk claims of them holds whichever is chosen. By induction over the arms: what they came to together is
+-- the merge of what each did (Merging).
 use mathlib.Core.Path.{_≡_, refl, sym}
 use mathlib.Core.Bool.{Bool, true, false, cond, _&&_, not}
 use mathlib.Core.List.{List, [], _∷_}
 use Prim.Native.Nat.{ℕ, suc}
 use Rattle.table.specs.Fold.{Pairwise, no-pair, pair}
-use Rattle.paths.specs.Marks.{Mark, none}
+use Rattle.kinds.specs.Named.{hasDefault}
+use Rattle.paths.specs.Marks.{Mark, blank}
 use Rattle.paths.specs.Commands.{Command, skip}
 use Rattle.paths.specs.Triples.{at, never, Triple}
 use Rattle.paths.proofs.Rules.{rule-skip, rule-choice, rule-stops, rule-seq, rule-alt}
@@ -12,14 +14,14 @@ use Rattle.paths.specs.Semantics.{Order}
 use Rattle.paths.specs.Evaluates.{AllEvaluate}
 use Rattle.paths.proofs.Evaluating.{in-order}
 use Rattle.stmt_paths.proofs.UnderOrder.{chosen-labels-so}
-use Rattle.stmt_paths.specs.Execution.{Execution, allLabels, hasDefault as defaultStands, armsFrom}
+use Rattle.stmt_paths.specs.Execution.{Execution, allLabels, chosenArm}
 use Rattle.da.specs.declared.DaOut.{DaOut}
 use Rattle.da.specs.declared.DaOut.the-variants.{Falls, Jumps}
 use Rattle.da.specs.declared.DaGiveUp.{DaGiveUp}
 use Rattle.da.specs.declared.DaResult.{DaResult}
 use Rattle.da.specs.declared.DaResult.the-variants.{Ok, Err}
 use Rattle.da.specs.Outcome.{State, isWritten, merge, _▷_}
-use Rattle.da.specs.Walk.{Walk, arms, hasDefault}
+use Rattle.da.specs.Walk.{Walk, arms}
 use Rattle.soundness.proofs.Known.{known}
 use Rattle.soundness.proofs.Asking.{unless-one-read}
 use Rattle.da.proofs.Merging.{merge-assoc}
@@ -64,7 +66,7 @@ arms-sound (pair {x = w} {y = r} {xs = ws} {ys = rs} l ls) after before =
     unless-one-read (ArmsSound after before (r ∷ rs)) (λ g. stopped) (l .labels) after
     (λ h. arm-then (λ arm. arms ws after (merge before arm)) h (l .sound after) (λ arm. arms-sound ls after (merge before arm)))
 
-same-defaults : {ws : List Walk} {rs : List Execution} → Pairwise StmtLaw ws rs → hasDefault ws ≡ defaultStands rs
+same-defaults : {ws : List Walk} {rs : List Execution} → Pairwise StmtLaw ws rs → hasDefault (λ w. w .isDefault) ws ≡ hasDefault (λ r. r .isDefault) rs
 same-defaults no-pair = refl
 same-defaults (pair l ls) = rw (l .default, same-defaults ls)
 
@@ -81,7 +83,7 @@ module _ {after : State} where
   module _ (o : Order) {all : Command} (all-so : Triple (known after) all (at (known after)) never) where
     -- whichever is chosen, or none: what was known is known
     kept : {rs : List Execution} {out : DaOut} (n : ℕ) (default : Bool) {before : Command} → Triple (known after) before (at (known after)) never → Walked after rs out
-        → Triple (known after) (armsFrom o n before all default rs) (at (known after)) (at none)
+        → Triple (known after) (chosenArm o n before all default rs) (at (known after)) (at blank)
     kept n true b no-arms = rule-stops
     kept n false b no-arms = loose (rule-seq (rule-choice n) all-so)
     kept n default b (one-arm {r = r} h k l) =
@@ -90,20 +92,20 @@ module _ {after : State} where
 
     -- where a default stands, one of the arms is run
     chosen : {rs : List Execution} {out : DaOut} (n : ℕ) {before : Command} → Triple (known after) before (at (known after)) never → Walked after rs out
-        → Sound (known after) (armsFrom o n before all true rs) (Ok out)
+        → Sound (known after) (chosenArm o n before all true rs) (Ok out)
     chosen n b no-arms = sound-jumps rule-stops
     chosen n b (one-arm {r = r} h k l) =
         let labelled = either-labels (r .isDefault) all-so (rule-seq b (chosen-labels-so o h)) in
         sound-merge (sound-then (rule-choice n) (sound-then (loose labelled) k)) (chosen (suc n) (rule-seq b (in-order h)) l)
 
   -- a case after its scrutinee
-  pub case-so : (o : Order) {rs : List Execution} {r : DaResult} (default : Bool) → ArmsSound after Jumps rs r → defaultStands rs ≡ default
-      → Sound (known after) (armsFrom o 0 skip (allLabels rs) (defaultStands rs) rs) (r ▷ λ all. cond (default && not (isWritten after)) (Ok all) (Ok (Falls after)))
+  pub case-so : (o : Order) {rs : List Execution} {r : DaResult} (default : Bool) → ArmsSound after Jumps rs r → hasDefault (λ r. r .isDefault) rs ≡ default
+      → Sound (known after) (chosenArm o 0 skip (allLabels rs) (hasDefault (λ r. r .isDefault) rs) rs) (r ▷ λ all. cond (default && not (isWritten after)) (Ok all) (Ok (Falls after)))
   case-so o true (walked l) q = rw q (by-test (Sound _ _) (not (isWritten after)) (λ p. chosen o (all-labels l) 0 rule-skip l) (λ p. sound-falls (kept o (all-labels l) 0 true rule-skip l)))
   case-so o false (walked l) q = rw q (sound-falls (kept o (all-labels l) 0 false rule-skip l))
   case-so o default stopped q = sound-stop
 
 -- the arms of a case, walked one after the other
 pub arms-so : (o : Order) {ws : List Walk} {rs : List Execution} → Pairwise StmtLaw ws rs → (after : State)
-    → Sound (known after) (armsFrom o 0 skip (allLabels rs) (defaultStands rs) rs) (arms ws after Jumps ▷ λ all. cond (hasDefault ws && not (isWritten after)) (Ok all) (Ok (Falls after)))
-arms-so o {ws} ls after = case-so o (hasDefault ws) (arms-sound ls after Jumps) (sym (same-defaults ls))
+    → Sound (known after) (chosenArm o 0 skip (allLabels rs) (hasDefault (λ r. r .isDefault) rs) rs) (arms ws after Jumps ▷ λ all. cond (hasDefault (λ w. w .isDefault) ws && not (isWritten after)) (Ok all) (Ok (Falls after)))
+arms-so o {ws} ls after = case-so o (hasDefault (λ w. w .isDefault) ws) (arms-sound ls after Jumps) (sym (same-defaults ls))

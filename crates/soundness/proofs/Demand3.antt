@@ -1,4 +1,5 @@
--- Demand 3 over trees, and what the accepted answers say of a path that goes on.
+-- Demand 3 over trees, and what the accepted answers say of a path that goes on: the law of row 0, read off by what a triple says of a
+-- run. The induction over the tree is that of Rows.
 use mathlib.Core.Path.{_≡_, subst}
 use mathlib.Core.Bool.{Bool, true}
 use mathlib.Core.List.{List}
@@ -6,9 +7,9 @@ use Prim.Native.Nat.{ℕ}
 use Rattle.table.specs.Rows.{Forest}
 use Rattle.table.proofs.Fold.{related-at}
 use Rattle.reads.specs.Iffs.{iffQuiet}
-use Rattle.paths.specs.Marks.{Mark, none, ⊑-refl}
+use Rattle.paths.specs.Marks.{Mark, blank, ⊑-refl}
 use Rattle.paths.specs.Commands.{PathEvent, Ending, falls, Command, Runs}
-use Rattle.paths.specs.Semantics.{Order, row-order, free-order, not-asked, holds, under}
+use Rattle.paths.specs.Semantics.{Order, row-order, free-order, not-asked, is-met, under}
 use Rattle.paths.specs.Triples.{at}
 use Rattle.paths.specs.Written.{Written, ReadsWritten}
 use Rattle.paths.proofs.Rules.{good-never}
@@ -33,7 +34,7 @@ first-sound : (o : Order) (ctx : DaCtx) (f : Forest) (start : State) → iffQuie
     → Sound (known start) (executed (under o) (ctx .local) (ctx .marks) f) (daStmt ctx f start)
 first-sound o ctx f start q h = related-at noWalk noExecution 0 no-law (stmt-laws (under o) ctx f q h) .sound start
 
-accepted-reads : {c : Command} {r : DaResult} {t : List PathEvent} {o : Ending} → Sound none c r → Accepted r → Runs c t o → ReadsWritten t
+accepted-reads : {c : Command} {r : DaResult} {t : List PathEvent} {o : Ending} → Sound blank c r → Accepted r → Runs c t o → ReadsWritten t
 accepted-reads (sound-falls h) a x = reads-written h x
 accepted-reads (sound-jumps h) a x = reads-written h x
 accepted-reads sound-stop a x = absurd a
@@ -43,7 +44,7 @@ demand-3-from-iff x marks sole f a q o h t p = accepted-reads (rw known-unwritte
 
 order-premise : (o : Order) (x : ℕ) (marks : ℕ → Bool) (f : Forest) → Premises x marks f → OrderPremise o x f
 order-premise row-order x marks f h = not-asked
-order-premise free-order x marks f h = holds (premises-nonblocking x marks f h)
+order-premise free-order x marks f h = is-met (premises-nonblocking x marks f h)
 
 -- the demand in its own words, whatever order a tool takes
 pub demand-3 : Demand3
@@ -57,7 +58,7 @@ demand-3-in-row-order x marks sole f a h t p = demand-3 x marks sole f a h free-
 pub demand-3-tested : (x : ℕ) (marks : ℕ → Bool) (sole : Bool) (f : Forest) → Accepted (daStmt (daCtx x marks sole) f unwritten) → firstFailing x marks f ≡ nowhere → (o : Order) (t : List PathEvent) → IsPath (under o) x marks f t → ReadsWritten t
 demand-3-tested x marks sole f a e o t p = demand-3 x marks sole f a (all-hold x marks f e) o t p
 
-written-falls : {c : Command} {t : List PathEvent} → Sound none c (Ok (Falls written)) → Runs c t falls → Written t
+written-falls : {c : Command} {t : List PathEvent} → Sound blank c (Ok (Falls written)) → Runs c t falls → Written t
 written-falls {t = t} (sound-falls h) x = fall-is-written t (rw known-written at h) x
 
 jumps-never : {a : Mark} {c : Command} {t : List PathEvent} → Sound a c (Ok Jumps) → Runs c t falls → ⊥

@@ -2,17 +2,17 @@
 -- these laws.
 use mathlib.Core.Path.{_≡_, refl}
 use mathlib.Core.Bool.{Bool, true, false, cond}
-use Rattle.paths.specs.Marks.{Mark, full, none, _⊑_, ⊑-refl, ⊑-full, none-⊑}
+use Rattle.paths.specs.Marks.{Mark, full, blank, _⊑_, ⊑-refl, ⊑-full, blank-⊑}
 use Rattle.da.specs.Outcome.{State, unwritten, written, isWritten, gains, meet}
 
 pub known : State → Mark
-known a = cond (isWritten a) full none
+known a = cond (isWritten a) full blank
 
 pub known-written : known written ≡ full
 unfolding known
 known-written = refl
 
-pub known-unwritten : known unwritten ≡ none
+pub known-unwritten : known unwritten ≡ blank
 unfolding known
 known-unwritten = refl
 
@@ -25,7 +25,7 @@ known-all a q = rw q
 pub known-gains : (wrote : Bool) (a : State) → known a ⊑ known (gains wrote a)
 unfolding known
 known-gains wrote true = ⊑-refl
-known-gains wrote false = none-⊑
+known-gains wrote false = blank-⊑
 
 pub known-gained : (wrote : Bool) (a : State) → wrote ≡ true → known (gains wrote a) ≡ full
 unfolding known
@@ -45,4 +45,4 @@ known-meet-first false b = ⊑-refl
 pub known-meet-second : (a b : State) → known (meet a b) ⊑ known b
 unfolding known
 known-meet-second true b = ⊑-refl
-known-meet-second false b = none-⊑
+known-meet-second false b = blank-⊑

@@ -1,4 +1,5 @@
--- The law of a statement: what the walk of a row says of every run of it.
+-- The law of a statement: what the walk of a row says of every run of it. It is what Rows shows of every row, from the laws of its
+-- children.
 use mathlib.Core.Path.{_≡_, refl}
 use mathlib.Core.Bool.{true}
 use Rattle.table.specs.Fold.{Pairwise, no-pair}

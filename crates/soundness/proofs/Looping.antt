@@ -1,11 +1,12 @@
--- A loop keeps what its answer claims: that what is known before the first round is known after the last, and where a round always
--- runs, nothing leaves the body and the body writes, that all is written.
+-- A loop keeps what its answer claims: that what is known before the first round is known after the last, and where a round always runs,
+-- nothing leaves the body and the body writes, that all is written. However many rounds there are, the rule of rounds asks what one
+-- keeps.
 use mathlib.Core.Path.{_≡_, refl}
 use mathlib.Core.Bool.{Bool, true, false, cond, _&&_}
 use Prim.Native.Nat.{ℕ}
 use lib.Dec.{eqb}
 use Rattle.kinds.proofs.Below.{both-true}
-use Rattle.paths.specs.Marks.{Mark, full, none, _⊑_, ⊑-refl, ⊑-trans}
+use Rattle.paths.specs.Marks.{Mark, full, blank, _⊑_, ⊑-refl, ⊑-trans}
 use Rattle.paths.specs.Commands.{out-of-loop, out-of-round, Command, seq, star}
 use Rattle.paths.specs.Triples.{at, never, Triple}
 use Rattle.paths.proofs.Rules.{less, nowhere, full-any, weaken, still, rule-seq, rule-star, rule-catch, rule-catch-never}
@@ -32,7 +33,7 @@ module _ {a after m : Mark} {head end : Command} (body step : Command) (up : a �
     rest-keeps = rule-seq (rule-star round-keeps) (weaken ⊑-refl (less ⊑-refl) nowhere end-so)
 
     -- any number of rounds
-    loop-keeps : (s : ℕ) → Triple a (loop s head body step end) (at after) (at none)
+    loop-keeps : (s : ℕ) → Triple a (loop s head body step end) (at after) (at blank)
     loop-keeps s = loose (rule-catch out-of-loop (go (eqb s 1)))
       where
         go : (b : Bool) → Triple a (cond b (seq (round head body step) (seq (star (round head body step)) end)) (seq (star (round head body step)) end)) (at after) (at after)
@@ -40,7 +41,7 @@ module _ {a after m : Mark} {head end : Command} (body step : Command) (up : a �
         go false = rest-keeps
 
   -- at least one round, that writes
-  loop-writes : (s : ℕ) → eqb s 1 ≡ true → Triple m body (at full) never → Triple a (loop s head body step end) (at full) (at none)
+  loop-writes : (s : ℕ) → eqb s 1 ≡ true → Triple m body (at full) never → Triple a (loop s head body step end) (at full) (at blank)
   loop-writes s q body-so = loose (rule-catch out-of-loop (rw q (rule-seq first full-any)))
     where
       first : Triple a (round head body step) (at full) (at full)
@@ -59,13 +60,13 @@ module _ {a : Mark} {head end : Command} (body step : Command) (r : StmtRow) (ca
     (stays : cannotEscape ≡ true → NeverJumps body) where
   -- no write is claimed
   unclaimed : Triple (known inBody) body (at (known inBody)) (at (known inBody)) → Triple (known inBody) step (at (known inBody)) (at (known inBody))
-      → Triple a (loop (r .side) head body step end) (at (known (gains false after))) (at none)
+      → Triple a (loop (r .side) head body step end) (at (known (gains false after))) (at blank)
   unclaimed h g = rw (gains-nothing false after refl) (loop-keeps body step up inside head-so end-so h g (r .side))
 
   claimed : (b : State) → Sound (known inBody) body (Ok (Falls b)) → Triple (known inBody) step (at (known inBody)) (at (known inBody))
       → (w : Bool)
       → loopBodyAssigns r cannotEscape (Falls b) ≡ w
-      → Triple a (loop (r .side) head body step end) (at (known (gains w after))) (at none)
+      → Triple a (loop (r .side) head body step end) (at (known (gains w after))) (at blank)
   claimed b h g true q =
       let p = both-true (fallsWritten (Falls b)) (cannotEscape && eqb (r .side) 1) q in
       let s = both-true cannotEscape (eqb (r .side) 1) (p .1) in

@@ -18,8 +18,8 @@ use Rattle.paths.specs.AnyOrder.{anyOrder}
 use Rattle.paths.specs.Evaluation.{evaluationAt}
 use Rattle.paths.specs.Written.{ReadsWritten}
 use Rattle.paths.proofs.Strength.{x, X, lit}
-use Rattle.stmt_paths.specs.Execution.{heldAt as heldEvaluationsAt, executionAt, IsPath}
-use Rattle.stmt_paths.specs.Premises.{refersAt, plainAt, nonblockingHere, nonblockingAt, nonblockingQuiet}
+use Rattle.stmt_paths.specs.Execution.{heldEvaluationsAt, executionAt, IsPath}
+use Rattle.stmt_paths.specs.Premises.{refersAt, plainAt, nonblockingHere, nonblockingQuietAt, nonblockingQuiet}
 use Rattle.stmt_paths.proofs.Strength.{marks, assignLater, bitOf, toY}
 use Rattle.effect_rules.specs.Rules.{unaryForm, binaryForm, callForm}
 use Rattle.expr_effect.specs.Effect.{exprEffectAt}
@@ -29,7 +29,7 @@ use Rattle.loops.specs.Time.{waitingWords, isOneOf, letsTimePass, advancesAt}
 use Rattle.da.specs.declared.DaOut.the-variants.{Falls}
 use Rattle.da.specs.declared.DaResult.the-variants.{Ok}
 use Rattle.da.specs.Outcome.{unwritten}
-use Rattle.da.specs.Walk.{daCtx, heldAt, walkAt, daStmt}
+use Rattle.da.specs.Walk.{daCtx, heldFactsAt, walkAt, daStmt}
 
 -- `y[x] <= 1;`
 abbrev later : Forest
@@ -44,7 +44,7 @@ pub record Needed : Type 0 where
   left-out : nonblockingQuiet x later ≡ false
 
 pub needed : Needed
-unfolding fold heldAt walkAt factsAt exprEffectAt unaryForm binaryForm callForm cannotEscapeAt waitingWords isOneOf letsTimePass advancesAt stmtClass stmtClassIn stmtWords exprClass taskEffect numbered kindNumber kindOf placeFrom kinds same isNamed begins count segments isLocal isMarked isLoopJump inRowOrder passedOver seenBelow seenAt seen some refers stmtNoRef every rest iffHere iffAt iffQuiet evaluationAt heldEvaluationsAt executionAt anyOrder refersAt plainAt nonblockingHere nonblockingAt nonblockingQuiet
+unfolding fold heldFactsAt walkAt factsAt exprEffectAt unaryForm binaryForm callForm cannotEscapeAt waitingWords isOneOf letsTimePass advancesAt stmtClass stmtClassIn stmtWords exprClass taskEffect numbered kindNumber kindOf placeFrom kinds same isNamed begins count segments isLocal isMarked isLoopJump inRowOrder passedOver seenBelow seenAt seen some refers stmtNoRef every rest iffHere iffAt iffQuiet evaluationAt heldEvaluationsAt executionAt anyOrder refersAt plainAt nonblockingHere nonblockingQuietAt nonblockingQuiet
 needed = record {
   accepted = refl;
   iffs = refl;

@@ -1,5 +1,5 @@
 -- What free order asks of a nonblocking, from the premises on nonblocking rows: those speak of words and of the reference test, the laws
--- of classes and facts.
+-- of classes and facts. By induction over the children, place by place.
 use mathlib.Core.Path.{_≡_, refl, sym, _∙_}
 use mathlib.Core.Logic.{_⊎_, inl, inr, ⊎-elim}
 use mathlib.Core.Bool.{true, false, _&&_, _||_, not}
@@ -15,20 +15,20 @@ use Rattle.kinds.specs.declared.StmtClass.the-variants.{Nonblocking}
 use Rattle.kinds.specs.Named.{kindNumber, numbered, exprClass, stmtClass}
 use Rattle.kinds.proofs.Below.{both-true, neither, true-not-false}
 use Rattle.kinds.proofs.Classes.{nonblocking-word}
-use Rattle.reads.specs.declared.Iff.the-variants.{Held}
+use Rattle.reads.specs.declared.Iff.the-variants.{Included}
 use Rattle.reads.specs.PathRows.{isLocal}
 use Rattle.reads.specs.Mentions.{mentions, refers}
 use Rattle.reads.specs.Iffs.{every, iffQuiet}
 use Rattle.reads.proofs.Trees.{refers-row, quiet-children, quiet-others, quiet-alone, refers-quiet}
-use Rattle.paths.specs.Marks.{Mark, none-⊑}
+use Rattle.paths.specs.Marks.{Mark, blank-⊑}
 use Rattle.paths.specs.Evaluation.{Evaluation}
 use Rattle.paths.proofs.Evaluating.{evaluates-lift}
 use Rattle.expr_effect.specs.Law.{isPlain, ExprFacts, factsAt, exprFacts, noFacts, NoneRefer, none-left, ExprLaw}
 use Rattle.expr_effect.proofs.Laws.{none-refer}
-use Rattle.stmt_paths.specs.Premises.{refersAt, refersEach, plainAt, plainEach, nonblockingHolds, nonblockingHere, nonblockingAt, nonblockingQuiet}
+use Rattle.stmt_paths.specs.Premises.{refersAt, refersEach, plainAt, plainEach, nonblockingHolds, nonblockingHere, nonblockingQuietAt, nonblockingQuiet}
 use Rattle.stmt_paths.proofs.PremiseTest.{either-or}
 use Rattle.stmt_paths.proofs.UnderOrder.{Others}
-use Rattle.da.specs.Walk.{heldAt, heldFacts}
+use Rattle.da.specs.Walk.{heldFactsAt, heldFacts}
 use Rattle.soundness.proofs.Asking.{quiet-each}
 
 -- its timing does not refer, and its target is the plain local or does not
@@ -41,8 +41,8 @@ pub record OthersQuiet (delays : List ExprFacts) (event target : ExprFacts) : Ty
 pub others-so : {delays : List ExprFacts} {event target : ExprFacts} {ds : List Evaluation} {e t : Evaluation} → Pairwise ExprLaw delays ds → ExprLaw event e → ExprLaw target t → (m : Mark) → OthersQuiet delays event target → Others m ds e t
 others-so {t = t} ld le lt m h = record {
   delays = quiet-each ld (h .no-delay);
-  event = evaluates-lift none-⊑ (le .quiet (h .no-event)) .value;
-  selects = ⊎-elim (λ p. evaluates-lift none-⊑ (lt .plainly p .unread) .value) (λ q. evaluates-lift none-⊑ (lt .quiet q) .value) (h .no-select);
+  event = evaluates-lift blank-⊑ (le .quiet (h .no-event)) .value;
+  selects = ⊎-elim (λ p. evaluates-lift blank-⊑ (lt .plainly p .unread) .value) (λ q. evaluates-lift blank-⊑ (lt .quiet q) .value) (h .no-select);
 }
 
 -- Of the children of a row
@@ -64,9 +64,9 @@ plain-child x (node k s lo hi cs others) zero e = plain-row x k cs e
 plain-child x (node k s lo hi cs others) (suc n) e = plain-child x others n e
 
 held-child : (x : ℕ) (f : Forest) → iffQuiet x f ≡ true → nth false 0 (refersEach x f) ≡ false → NoneRefer (nth [] 0 (heldFacts x f))
-unfolding fold heldAt refersAt
+unfolding fold heldFactsAt refersAt
 held-child x nil q e = none-left
-held-child x (node k s lo hi cs others) q e = none-refer x cs (refers-quiet x cs (quiet-children x k s lo hi cs others q) ∙ neither (mentions x (exprClass k) cs) (refers Held x cs) (sym (refers-row x k s lo hi cs) ∙ e) .1)
+held-child x (node k s lo hi cs others) q e = none-refer x cs (refers-quiet x cs (quiet-children x k s lo hi cs others q) ∙ neither (mentions x (exprClass k) cs) (refers Included x cs) (sym (refers-row x k s lo hi cs) ∙ e) .1)
 
 -- Of a row
 
@@ -82,8 +82,8 @@ others-quiet x cs q h =
 
 module _ (x k s lo hi : ℕ) (cs others : Forest) (h : nonblockingQuiet x (node k s lo hi cs others) ≡ true) where
   parts : (nonblockingHere x k cs && nonblockingQuiet x cs ≡ true) × (nonblockingQuiet x others ≡ true)
-  unfolding nonblockingQuiet fold every nonblockingAt
-  parts = both-true (nonblockingHere x k cs && every (fold (nonblockingAt x) cs)) (every (fold (nonblockingAt x) others)) h
+  unfolding nonblockingQuiet fold every nonblockingQuietAt
+  parts = both-true (nonblockingHere x k cs && every (fold (nonblockingQuietAt x) cs)) (every (fold (nonblockingQuietAt x) others)) h
 
   pub row-others-quiet : iffQuiet x cs ≡ true → stmtClass k ≡ Nonblocking → OthersQuiet (nth [] 0 (heldFacts x cs)) (nth noFacts 1 (exprFacts x cs)) (nth noFacts 2 (exprFacts x cs))
   unfolding nonblockingHere

@@ -1,4 +1,5 @@
--- The law of a statement, for every row. Of expressions only their law is cited.
+-- The law of a statement, for every row: by induction over the tree, each class from the laws of its children. Of expressions only their
+-- law is cited.
 use mathlib.Core.Path.{_≡_, refl, sym, _∙_}
 use mathlib.Core.Bool.{Bool, true, false, cond, _&&_, not}
 use mathlib.Core.List.{List, []}
@@ -10,15 +11,15 @@ use Rattle.table.specs.Fold.{fold, nth, Pairwise, no-pair, pair}
 use Rattle.table.proofs.Fold.{related-at, related-tail}
 use Rattle.kinds.specs.declared.StmtClass.{StmtClass}
 use Rattle.kinds.specs.declared.StmtClass.the-variants.{Absent, Match, Default, Decl, Blocking, Nonblocking, If, Return, Case, For, While, Repeat, Forever, Block, Fork, Systask, Task, Delayctrl, Eventctrl, Wait, Disable, Null, Unmodelled, NoStmt}
-use Rattle.kinds.specs.Named.{exprClass, stmtClass, taskEffect}
+use Rattle.kinds.specs.Named.{exprClass, stmtClass, taskEffect, hasDefault}
 use Rattle.kinds.proofs.Below.{both-true, neither, true-not-false}
-use Rattle.reads.specs.declared.Iff.the-variants.{Skipped, Held}
+use Rattle.reads.specs.declared.Iff.the-variants.{Skipped, Included}
 use Rattle.reads.specs.PathRows.{isLoopJump}
 use Rattle.reads.specs.Mentions.{mentions, refers}
 use Rattle.reads.specs.NoRef.{vetting, vetted, stmtNoRef}
 use Rattle.reads.specs.Iffs.{iffQuiet}
 use Rattle.reads.proofs.Trees.{refers-node, refers-row, quiet-children, quiet-others, quiet-alone, refers-quiet}
-use Rattle.paths.specs.Marks.{Mark, full, _⊑_, ⊑-refl, ⊑-full, none-⊑}
+use Rattle.paths.specs.Marks.{Mark, full, _⊑_, ⊑-refl, ⊑-full, blank-⊑}
 use Rattle.paths.specs.Commands.{read, write, Command, skip, emit, seq}
 use Rattle.paths.specs.Semantics.{Order, InFreeOrder, Semantics}
 use Rattle.paths.specs.Triples.{at, never, Triple}
@@ -30,7 +31,7 @@ use Rattle.paths.proofs.Evaluating.{all-together, evaluates-lift, evaluates-pla
 use Rattle.effect_rules.specs.Rules.{writesWhen}
 use Rattle.expr_effect.specs.Law.{ExprFacts, noFacts, NoneRefer, none-left, ExprLaw}
 use Rattle.expr_effect.proofs.Laws.{expr-laws, no-law as no-expr-law, none-refer}
-use Rattle.stmt_paths.specs.Execution.{Execution, plain, noExecution, oneByOne, ifElse as ifRuns, caseOf as caseRuns, whileTrue as whileRuns, assignment, jump, executionOf, heldAt as heldEvaluationsAt, heldEvaluations, executionAt, executions}
+use Rattle.stmt_paths.specs.Execution.{Execution, plain, noExecution, oneByOne, ifStatement, caseStatement, whileLoop, blockingAssignment, jump, executionOf, heldEvaluationsAt, heldEvaluations, executionAt, executions}
 use Rattle.stmt_paths.proofs.Conditions.{unmet-so}
 use Rattle.stmt_paths.proofs.UnderOrder.{Target, target-keeps, right-keeps, assignment-so, Others, nonblocking-so}
 use Rattle.loops.proofs.Staying.{NeverJumps, stay, stay-at}
@@ -39,7 +40,7 @@ use Rattle.da.specs.declared.DaResult.{DaResult}
 use Rattle.da.specs.declared.DaResult.the-variants.{Ok}
 use Rattle.da.specs.declared.CallEffect.the-variants.{Inert, Writes as CallWrites, Reads as CallReads, Unknown}
 use Rattle.da.specs.Outcome.{State, written, isWritten, gains, merge, _▷_, giveUp}
-use Rattle.da.specs.Walk.{DaCtx, Walk, StmtRow, exprOutWrites, once, stmt, noWalk, assigned, blocking, block, elseFrom, ifElse, arms, hasDefault, caseOf, rounds, whileTrue, task, referring, walkOf, heldAt, heldFacts, stmtRow, walkAt, walks}
+use Rattle.da.specs.Walk.{DaCtx, Walk, StmtRow, exprOutWrites, gainsWhen, stmt, noWalk, assigned, blocking, block, elseFrom, ifElse, arms, caseOf, rounds, whileTrue, task, referring, walkOf, heldFactsAt, heldFacts, stmtRow, walkAt, walks}
 use Rattle.soundness.specs.Demand3.{OrderPremise}
 use Rattle.soundness.proofs.Known.{known, known-written, known-all, known-gains, known-gained, gains-nothing}
 use Rattle.soundness.proofs.Sound.{Sound, sound-falls, sound-jumps, sound-stop, loose, unless, by-test, sound-then, sound-or-stop, sound-next, sound-state, sound-merge}
@@ -82,14 +83,14 @@ module _ (o : Order) (r : StmtRow) {delays : List ExprFacts} {event target right
   -- written before, or by the right side, where the target does not refer
   part-so : isWritten (gains (not (target .refers) && exprOutWrites right) a) ≡ true → AllEvaluate (known a) ds → Evaluates (known a) (known a) e → Evaluates (known a) (known a) v
       → Evaluates (known a) (known (gains (exprOutWrites right) a)) v
-      → Triple (known a) (assignment o ds e t v) (at full) never
+      → Triple (known a) (blockingAssignment o ds e t v) (at full) never
   part-so q hd he hv k = go (not (target .refers) && exprOutWrites right) refl q
     where
-      go : (w : Bool) → not (target .refers) && exprOutWrites right ≡ w → isWritten (gains w a) ≡ true → Triple (known a) (assignment o ds e t v) (at full) never
+      go : (w : Bool) → not (target .refers) && exprOutWrites right ≡ w → isWritten (gains w a) ≡ true → Triple (known a) (blockingAssignment o ds e t v) (at full) never
       go true p q =
           let both = both-true (not (target .refers)) (exprOutWrites right) p in
           assignment-so o hd he
-          (record { selects = evaluates-lift none-⊑ (lt .quiet (not-true (target .refers) (both .0))) .value; store = lt .calm .store; write = write-keeps (t .isPlainLocal) })
+          (record { selects = evaluates-lift blank-⊑ (lt .quiet (not-true (target .refers) (both .0))) .value; store = lt .calm .store; write = write-keeps (t .isPlainLocal) })
           (record { more = ⊑-full; keeps = hv .value; gains = rw (known-gained (exprOutWrites right) a (both .1)) at (k .value) })
       go false p q = rw (known-all a (rw (gains-nothing false a refl) at q)) (assignment-so o (calm-each ld) (le .calm) (target-keeps (lt .calm)) (right-keeps (lr .calm)))
 
@@ -97,16 +98,16 @@ module _ (o : Order) (r : StmtRow) {delays : List ExprFacts} {event target right
   plain-so : target .plain ≡ true → Target (known a) (known a) full t
   plain-so p =
       let l = lt .plainly p in
-      record { selects = evaluates-lift none-⊑ (l .unread) .value; store = weaken none-⊑ (less ⊑-refl) nowhere (l .stored); write = rw (l .plain) rule-write }
+      record { selects = evaluates-lift blank-⊑ (l .unread) .value; store = weaken blank-⊑ (less ⊑-refl) nowhere (l .stored); write = rw (l .plain) rule-write }
 
   assigned-so : AllEvaluate (known a) ds → Evaluates (known a) (known a) e → Evaluates (known a) (known a) v → Evaluates (known a) (known (gains (exprOutWrites right) a)) v
-      → Sound (known a) (assignment o ds e t v) (assigned (target .plain) (gains (not (target .refers) && exprOutWrites right) a) (r .lo) (r .hi))
+      → Sound (known a) (blockingAssignment o ds e t v) (assigned (target .plain) (gains (not (target .refers) && exprOutWrites right) a) (r .lo) (r .hi))
   assigned-so hd he hv hw =
       by-test (Sound _ _) (target .plain)
       (λ p. sound-falls (rw known-written (loose (assignment-so o hd he (plain-so p) (right-keeps hv)))))
       (λ p. by-test (Sound _ _) (isWritten (gains (not (target .refers) && exprOutWrites right) a)) (λ q. sound-falls (rw (known-all _ q) (loose (part-so q hd he hv hw)))) (λ q. sound-stop))
 
-  blocking-so : Sound (known a) (assignment o ds e t v) (blocking r delays event target right a)
+  blocking-so : Sound (known a) (blockingAssignment o ds e t v) (blocking r delays event target right a)
   blocking-so =
       unless-one-read (Sound _ _) (λ g. sound-stop) ld a
       (λ hd. unless (Sound _ _) (not (isWritten a) && event .refers) sound-stop
@@ -119,16 +120,16 @@ else-so {e} after inElse l p h =
     (λ q. sound-falls (weaken ⊑-refl (less p) nowhere (rule-seq h (l .absent q (known inElse)))))
     (λ q. sound-then (loose h) (l .sound inElse))
 
-if-so : {c : ExprFacts} {v : Evaluation} {t e : Walk} {tRun eRun : Execution} → ExprLaw c v → StmtLaw t tRun → StmtLaw e eRun → (a : State) → Sound (known a) (ifRuns v tRun eRun) (ifElse c t e a)
+if-so : {c : ExprFacts} {v : Evaluation} {t e : Walk} {tRun eRun : Execution} → ExprLaw c v → StmtLaw t tRun → StmtLaw e eRun → (a : State) → Sound (known a) (ifStatement v tRun eRun) (ifElse c t e a)
 if-so {c} {v} {t} {e} lc lt le a =
-    when-evaluated lc a (Sound _ _) (λ g. sound-stop) (λ after. t .walk (once c true after) ▷ λ aThen. elseFrom e after (once c false after) ▷ λ aElse. Ok (merge aThen aElse))
+    when-evaluated lc a (Sound _ _) (λ g. sound-stop) (λ after. t .walk (gainsWhen c true after) ▷ λ aThen. elseFrom e after (gainsWhen c false after) ▷ λ aElse. Ok (merge aThen aElse))
     (λ h.
     let after = gains (exprOutWrites c) a in
-    sound-merge (sound-then (loose (h .once-so true is-true tt)) (lt .sound (once c true after))) (else-so after (once c false after) le (known-gains (writesWhen (c .effects) false) after) (once-unmet h)))
+    sound-merge (sound-then (loose (h .once-so true is-true tt)) (lt .sound (gainsWhen c true after))) (else-so after (gainsWhen c false after) le (known-gains (writesWhen (c .effects) false) after) (once-unmet h)))
 
-case-so : (o : Order) {c : ExprFacts} {v : Evaluation} {ws : List Walk} {rs : List Execution} → ExprLaw c v → Pairwise StmtLaw ws rs → (a : State) → Sound (known a) (caseRuns o v rs) (caseOf c ws a)
+case-so : (o : Order) {c : ExprFacts} {v : Evaluation} {ws : List Walk} {rs : List Execution} → ExprLaw c v → Pairwise StmtLaw ws rs → (a : State) → Sound (known a) (caseStatement o v rs) (caseOf c ws a)
 case-so o {c} {ws = ws} lc lw a =
-    when-evaluated lc a (Sound _ _) (λ g. sound-stop) (λ after. arms ws after Jumps ▷ λ all. cond (hasDefault ws && not (isWritten after)) (Ok all) (Ok (Falls after)))
+    when-evaluated lc a (Sound _ _) (λ g. sound-stop) (λ after. arms ws after Jumps ▷ λ all. cond (hasDefault (λ w. w .isDefault) ws && not (isWritten after)) (Ok all) (Ok (Falls after)))
     (λ h. sound-then (loose (h .evaluates .value)) (arms-so o lw (gains (exprOutWrites c) a)))
 
 -- One row, from its children
@@ -138,7 +139,7 @@ module _ (sem : Semantics) (ctx : DaCtx) (r : StmtRow) (cs : Forest) {es : List 
     (jumps : r .isJump ≡ isLoopJump (ctx .marks) cs)
     (stays : (n : ℕ) → nth true n (r .cannotEscape) ≡ true → NeverJumps (nth noExecution n rs .run))
     (quiet : refers Skipped (ctx .local) cs ≡ false → NoneRefer es) (quiet-held : refers Skipped (ctx .local) cs ≡ false → NoneRefer (nth [] 0 held))
-    (same : refers Skipped (ctx .local) cs ≡ refers Held (ctx .local) cs) where
+    (same : refers Skipped (ctx .local) cs ≡ refers Included (ctx .local) cs) where
   expr : (n : ℕ) → ExprLaw (nth noFacts n es) (nth noEvaluation n vs)
   expr n = related-at noFacts noEvaluation n no-expr-law le
 
@@ -155,9 +156,9 @@ module _ (sem : Semantics) (ctx : DaCtx) (r : StmtRow) (cs : Forest) {es : List 
 
   -- a loop that asks a condition
   while-so : (i b : ℕ) {step : Walk} {stepRun : Execution} → StmtLaw step stepRun → (a : State)
-      → Sound (known a) (whileRuns (r .side) (nth noEvaluation i vs) (nth noExecution b rs .run) (stepRun .run)) (whileTrue r (nth true b (r .cannotEscape)) (nth noFacts i es) (nth noWalk b ws) step a)
+      → Sound (known a) (whileLoop (r .side) (nth noEvaluation i vs) (nth noExecution b rs .run) (stepRun .run)) (whileTrue r (nth true b (r .cannotEscape)) (nth noFacts i es) (nth noWalk b ws) step a)
   while-so i b {step} {stepRun} ls a =
-      when-evaluated (expr i) a (Sound _ _) (λ g. sound-stop) (λ after. rounds r (nth true b (r .cannotEscape)) (nth noWalk b ws) step after (once (nth noFacts i es) true after))
+      when-evaluated (expr i) a (Sound _ _) (λ g. sound-stop) (λ after. rounds r (nth true b (r .cannotEscape)) (nth noWalk b ws) step after (gainsWhen (nth noFacts i es) true after))
       (λ h. rounds-so (nth noExecution b rs .run) (stepRun .run) r (nth true b (r .cannotEscape)) _ _ (known-gains _ a) (known-gains _ _)
       (h .once-so true is-true tt) (unmet-so (h .evaluates)) (stays b) (child b .sound _) (ls .sound _))
 
@@ -215,21 +216,21 @@ module _ (sem : Semantics) (ctx : DaCtx) (r : StmtRow) (cs : Forest) {es : List 
 -- Every row
 
 held-laws : (sem : Semantics) (x : ℕ) (f : Forest) → iffQuiet x f ≡ true → Pairwise ExprLaw (nth [] 0 (heldFacts x f)) (nth [] 0 (heldEvaluations sem x f))
-unfolding fold heldAt heldEvaluationsAt
+unfolding fold heldFactsAt heldEvaluationsAt
 held-laws sem x nil q = no-pair
 held-laws sem x (node k s lo hi cs others) q = expr-laws sem x cs (quiet-children x k s lo hi cs others q)
 
 -- what the first row holds does not refer, if none of the rows does
 held-quiet : (x : ℕ) (f : Forest) → iffQuiet x f ≡ true → refers Skipped x f ≡ false → NoneRefer (nth [] 0 (heldFacts x f))
-unfolding fold heldAt
+unfolding fold heldFactsAt
 held-quiet x nil q e = none-left
 held-quiet x (node k s lo hi cs others) q e = none-refer x cs (refers-quiet x cs (quiet-children x k s lo hi cs others q) ∙ below)
   where
-    below : refers Held x cs ≡ false
+    below : refers Included x cs ≡ false
     below =
         let here = neither (refers Skipped x (node k s lo hi cs nil)) (refers Skipped x others) (sym (refers-node Skipped x k s lo hi cs others) ∙ e) .0 in
         let held = sym (refers-quiet x (node k s lo hi cs nil) (quiet-alone x k s lo hi cs others q)) ∙ here in
-        neither (mentions x (exprClass k) cs) (refers Held x cs) (sym (refers-row x k s lo hi cs) ∙ held) .1
+        neither (mentions x (exprClass k) cs) (refers Included x cs) (sym (refers-row x k s lo hi cs) ∙ held) .1
 
 pub stmt-laws : (sem : Semantics) (ctx : DaCtx) (f : Forest) → iffQuiet (ctx .local) f ≡ true → OrderPremise (sem .order) (ctx .local) f → Pairwise StmtLaw (walks ctx f) (executions sem (ctx .local) (ctx .marks) f)
 unfolding fold walkAt executionAt stmtNoRef

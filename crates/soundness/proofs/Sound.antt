@@ -1,8 +1,8 @@
--- What an answer of the walk claims of a command, and how the claims of parts make that of the whole. Nothing here knows a kind of
--- row.
+-- What an answer of the walk claims of a command, and how the claims of parts make that of the whole, by cases over the answers. Nothing
+-- here knows a kind of row.
 use mathlib.Core.Path.{_≡_, refl}
 use mathlib.Core.Bool.{Bool, true, false, cond}
-use Rattle.paths.specs.Marks.{Mark, none, ⊑-refl, none-⊑}
+use Rattle.paths.specs.Marks.{Mark, blank, ⊑-refl, blank-⊑}
 use Rattle.paths.specs.Commands.{stops, Command, exit, seq, alt}
 use Rattle.paths.specs.Triples.{Claim, at, never, Triple}
 use Rattle.paths.proofs.Rules.{_≽_, less, nowhere, ≽-refl, weaken, keep, rule-stops, rule-seq, rule-seq-never, rule-alt}
@@ -17,16 +17,16 @@ use Rattle.soundness.proofs.Known.{known, known-meet-first, known-meet-
 -- from a mark on: falls means that so much is written next, jumps that nothing is run next; a give-up claims nothing. Of loop
 -- jumps nothing is claimed.
 pub data Sound (a : Mark) (c : Command) : DaResult → Type 0 where
-  sound-falls : {b : State} → Triple a c (at (known b)) (at none) → Sound a c (Ok (Falls b))
-  sound-jumps : Triple a c never (at none) → Sound a c (Ok Jumps)
+  sound-falls : {b : State} → Triple a c (at (known b)) (at blank) → Sound a c (Ok (Falls b))
+  sound-jumps : Triple a c never (at blank) → Sound a c (Ok Jumps)
   sound-stop : {stop : DaGiveUp} → Sound a c (Err stop)
 
-says-nothing : (claim : Claim) → claim ≽ at none
-says-nothing (at b) = less none-⊑
+says-nothing : (claim : Claim) → claim ≽ at blank
+says-nothing (at b) = less blank-⊑
 says-nothing never = nowhere
 
 -- of jumps nothing is claimed
-pub loose : {a : Mark} {c : Command} {next jump : Claim} → Triple a c next jump → Triple a c next (at none)
+pub loose : {a : Mark} {c : Command} {next jump : Claim} → Triple a c next jump → Triple a c next (at blank)
 loose {next = next} {jump = jump} h = weaken ⊑-refl (≽-refl next) (says-nothing jump) h
 
 -- a give-up, or what follows where its test is false
@@ -41,7 +41,7 @@ by-test P false h k = k refl
 
 module _ {a b : Mark} {c d : Command} where
   -- one after the other
-  pub sound-then : {r : DaResult} → Triple a c (at b) (at none) → Sound b d r → Sound a (seq c d) r
+  pub sound-then : {r : DaResult} → Triple a c (at b) (at blank) → Sound b d r → Sound a (seq c d) r
   sound-then h (sound-falls g) = sound-falls (rule-seq h g)
   sound-then h (sound-jumps g) = sound-jumps (rule-seq h g)
   sound-then h sound-stop = sound-stop
@@ -54,7 +54,7 @@ module _ {a b : Mark} {c d : Command} where
 
 module _ {a : Mark} {c d : Command} where
   -- what is never run may be claimed anything of
-  pub sound-never : (r : DaResult) → Triple a c never (at none) → Sound a (seq c d) r
+  pub sound-never : (r : DaResult) → Triple a c never (at blank) → Sound a (seq c d) r
   sound-never (Ok (Falls b)) h = sound-falls (rule-seq-never h)
   sound-never (Ok Jumps) h = sound-jumps (rule-seq-never h)
   sound-never (Err stop) h = sound-stop

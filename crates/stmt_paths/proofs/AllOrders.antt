@@ -19,8 +19,8 @@ use Rattle.paths.specs.AnyOrder.{anyOrder}
 use Rattle.paths.specs.Evaluation.{evaluationAt}
 use Rattle.paths.proofs.Listed.{Run, IsRun, followed, eachFollowed, rounds, listed, listed-run, each-imply, loopless, Settled, Among, all-listed, sameEvents, sameRun, isAmong, allAmong, sameRuns, same-each, same-among, each-same}
 use Rattle.paths.proofs.Strength.{Row, row, x, y, w, X, Y, W, lit, absent, not!, plus, event}
-use Rattle.stmt_paths.specs.Execution.{heldAt, executionAt, executed, IsPath}
-use Rattle.stmt_paths.specs.Premises.{refersAt, plainAt, nonblockingHere, nonblockingAt, nonblockingQuiet}
+use Rattle.stmt_paths.specs.Execution.{heldEvaluationsAt, executionAt, executed, IsPath}
+use Rattle.stmt_paths.specs.Premises.{refersAt, plainAt, nonblockingHere, nonblockingQuietAt, nonblockingQuiet}
 use Rattle.stmt_paths.proofs.Strength.{j, b, marks, timed, assign, timedLater, assignLater, delay, on, intra, toX, toY, bitOf, writes, reads, block, decl, ifElse, returns, caseOf, arm, default, for, while, repeat, forever, disable, task, delayed, awaits, wait, null, Case, fall, straight, rounds-to}
 
 -- a system task with one argument, whose order is fixed where an assignment has 24
@@ -419,7 +419,7 @@ shown c = listed (c .most) (commandOf c)
 
 -- The joint fact: what the listing gives of each statement has the runs that are expected of it, and no others.
 pub joint : map (λ c. sameRuns (shown c) (c .expected)) cases ≡ map (λ c. true) cases
-unfolding fold evaluationAt heldAt executionAt anyOrder exprClass stmtClass stmtClassIn stmtWords taskEffect numbered kindNumber kindOf placeFrom kinds same isNamed begins count segments isLocal isMarked isLoopJump inRowOrder seenBelow seenAt seen some refers listed eachFollowed followed rounds sameEvents sameRun isAmong allAmong sameRuns
+unfolding fold evaluationAt heldEvaluationsAt executionAt anyOrder exprClass stmtClass stmtClassIn stmtWords taskEffect numbered kindNumber kindOf placeFrom kinds same isNamed begins count segments isLocal isMarked isLoopJump inRowOrder seenBelow seenAt seen some refers listed eachFollowed followed rounds sameEvents sameRun isAmong allAmong sameRuns
 joint = refl
 
 -- So each of them is a path
@@ -466,5 +466,5 @@ premises =
     []
 
 pub joint-premises : map (λ p. nonblockingQuiet x (p .0 nil)) premises ≡ map (λ p. p .1) premises
-unfolding fold exprClass numbered kindNumber kindOf placeFrom kinds same isNamed begins count segments isLocal inRowOrder seenBelow seenAt seen some refers refersAt plainAt every nonblockingHere nonblockingAt nonblockingQuiet
+unfolding fold exprClass numbered kindNumber kindOf placeFrom kinds same isNamed begins count segments isLocal inRowOrder seenBelow seenAt seen some refers refersAt plainAt every nonblockingHere nonblockingQuietAt nonblockingQuiet
 joint-premises = refl

@@ -1,7 +1,7 @@
 -- Lists and loops of any length: each row of a block runs where those before it have fallen, each arm of a case can be chosen, by its
 -- number and after the labels that document 01 names, or in free order up to any one of the arm's own, and no run of a case is another;
 -- and a loop runs any number of rounds, and does nothing else. The joint facts of Strength and AllOrders know short lists and three
--- rounds only.
+-- rounds only. By induction over the arms, the labels and the rounds.
 use mathlib.Core.Path.{_≡_, refl, ap}
 use mathlib.Core.Bool.{Bool, true, false, cond, _||_}
 use mathlib.Core.List.{List, [], _∷_, _++_}
@@ -14,6 +14,7 @@ use Rattle.table.specs.Rows.{Forest}
 use Rattle.table.specs.Fold.{nth}
 use Rattle.kinds.specs.declared.StmtClass.{StmtClass}
 use Rattle.kinds.specs.declared.StmtClass.the-variants.{Match, Blocking, Nonblocking, Case, Block, Systask, Delayctrl}
+use Rattle.kinds.specs.Named.{hasDefault}
 use Rattle.paths.specs.Commands.{PathEvent, Ending, falls, stops, choice, out-of-loop, Command, skip, emit, exit, seq, alt, star, catch, Runs, run-stop, run-skip, run-seq, run-off, run-left, run-right, run-none, run-more, run-catch}
 use Rattle.paths.specs.Semantics.{Order, row-order, free-order, Semantics, under}
 use Rattle.paths.specs.AnyOrder.{anyOrder}
@@ -23,7 +24,7 @@ use Rattle.paths.specs.Each.{Each}
 use Rattle.paths.proofs.Within.{Within, within-refl, within-trans, within-seq, within-left, within-right, within-catch, Same, same-refl, same-sym, same-trans, same-seq, same-skip, same-assoc}
 use Rattle.paths.proofs.AnyOrder.{InAnyOrder, in-any-order, InAnyOrderThen, in-any-order-then}
 use Rattle.paths.proofs.AnyLength.{in-turn, in-order-append}
-use Rattle.stmt_paths.specs.Execution.{Execution, noExecution, oneByOne, hasDefault, noArm, allLabels, chosenLabels, armsFrom, round, loop, executionOf}
+use Rattle.stmt_paths.specs.Execution.{Execution, noExecution, oneByOne, noArm, allLabels, chosenLabels, chosenArm, round, loop, executionOf}
 
 -- Rows of a block, arguments of a system task
 
@@ -63,19 +64,19 @@ module _ (x : ℕ) (marks : ℕ → Bool) (s : ℕ) (cs : Forest) (es : List Eva
 -- Arms of a case
 
 -- the labels of these arms, in row order
-abbrev pub labelsOf : List Execution → List Evaluation
-labelsOf [] = []
-labelsOf (r ∷ rs) = r .labels ++ labelsOf rs
+abbrev pub labelsInOrder : List Execution → List Evaluation
+labelsInOrder [] = []
+labelsInOrder (r ∷ rs) = r .labels ++ labelsInOrder rs
 
 -- "scrutinee, then labels in row order through the chosen arm's (all of them for a default ...), then that arm", by its number from 0;
 -- in free order up to any one of the chosen arm's
 abbrev pub choosesArm : Order → Evaluation → List Execution → Execution → List Execution → Command
 choosesArm o c before r after =
-    seq (c .value) (seq (emit (choice (length before))) (seq (cond (r .isDefault) (inOrder (labelsOf (before ++ (r ∷ after)))) (seq (inOrder (labelsOf before)) (chosenLabels o (r .labels)))) (r .run)))
+    seq (c .value) (seq (emit (choice (length before))) (seq (cond (r .isDefault) (inOrder (labelsInOrder (before ++ (r ∷ after)))) (seq (inOrder (labelsInOrder before)) (chosenLabels o (r .labels)))) (r .run)))
 
 -- "all of them for ... no arm", by "the count of arms"
 abbrev pub choosesNone : Evaluation → List Execution → Command
-choosesNone c rs = seq (c .value) (seq (emit (choice (length rs))) (inOrder (labelsOf rs)))
+choosesNone c rs = seq (c .value) (seq (emit (choice (length rs))) (inOrder (labelsInOrder rs)))
 
 -- "no arm only where no default stands"
 abbrev pub NoDefault : List Execution → Type 0
@@ -87,9 +88,9 @@ pub data CaseRun (order : Order) (c : Evaluation) (rs : List Execution) (t : Lis
   of-none : NoDefault rs → Runs (choosesNone c rs) t o → CaseRun order c rs t o
   of-scrutinee : Runs (seq (c .value) (exit stops)) t o → CaseRun order c rs t o
 
-all-labels : (rs : List Execution) → Same (inOrder (labelsOf rs)) (allLabels rs)
+all-labels : (rs : List Execution) → Same (inOrder (labelsInOrder rs)) (allLabels rs)
 all-labels [] = same-refl
-all-labels (r ∷ rs) = same-trans (in-order-append (r .labels) (labelsOf rs)) (same-seq same-refl (all-labels rs))
+all-labels (r ∷ rs) = same-trans (in-order-append (r .labels) (labelsInOrder rs)) (same-seq same-refl (all-labels rs))
 
 -- the labels of the chosen arm in free order: up to each one of them, and nothing else
 
@@ -117,7 +118,7 @@ only-labels (e ∷ es) _ _ (run-seq {s = s} {t = t} {o = o} x (run-right y)) = l
 module _ (o : Order) where
   -- number m + count of `before`
   abbrev armFrom : ℕ → Command → Command → List Execution → Execution → Command
-  armFrom m first all before r = seq (emit (choice (m + length before))) (seq (cond (r .isDefault) all (seq first (seq (inOrder (labelsOf before)) (chosenLabels o (r .labels))))) (r .run))
+  armFrom m first all before r = seq (emit (choice (m + length before))) (seq (cond (r .isDefault) all (seq first (seq (inOrder (labelsInOrder before)) (chosenLabels o (r .labels))))) (r .run))
 
   module _ (m : ℕ) (first all : Command) (r : Execution) where
     by-default : (default : Bool) {c d : Command} → Same c d → Same (cond default all c) (cond default all d)
@@ -132,18 +133,18 @@ module _ (o : Order) where
         let e : m + suc (length before) ≡ suc m + length before = omega arith in
         rw e (same-seq same-refl (same-seq (by-default (r .isDefault) labels) same-refl))
       where
-        labels : Same (seq first (seq (inOrder (b .labels ++ labelsOf before)) (chosenLabels o (r .labels)))) (seq (seq first (inOrder (b .labels))) (seq (inOrder (labelsOf before)) (chosenLabels o (r .labels))))
-        labels = same-trans (same-seq same-refl (same-trans (same-seq (in-order-append (b .labels) (labelsOf before)) same-refl) (same-sym same-assoc))) same-assoc
+        labels : Same (seq first (seq (inOrder (b .labels ++ labelsInOrder before)) (chosenLabels o (r .labels)))) (seq (seq first (inOrder (b .labels))) (seq (inOrder (labelsInOrder before)) (chosenLabels o (r .labels))))
+        labels = same-trans (same-seq same-refl (same-trans (same-seq (in-order-append (b .labels) (labelsInOrder before)) same-refl) (same-sym same-assoc))) same-assoc
 
 none-later : (m : ℕ) (all : Command) (rs : List Execution) (default : Bool) → noArm default (m + suc (length rs)) all ≡ noArm default (suc m + length rs) all
 none-later m all rs default = let e : m + suc (length rs) ≡ suc m + length rs = omega arith in rw e
 
 module _ (order : Order) (all : Command) (default : Bool) where
-  arm-among : (m : ℕ) (first : Command) (before : List Execution) (r : Execution) (after : List Execution) → Within (armFrom order m first all before r) (armsFrom order m first all default (before ++ (r ∷ after)))
+  arm-among : (m : ℕ) (first : Command) (before : List Execution) (r : Execution) (after : List Execution) → Within (armFrom order m first all before r) (chosenArm order m first all default (before ++ (r ∷ after)))
   arm-among m first [] r after = within-trans (arm-first order m first all r .back) (within-left within-refl)
   arm-among m first (b ∷ before) r after = within-trans (arm-later order m first all r b before .forth) (within-right (arm-among (suc m) (seq first (inOrder (b .labels))) before r after))
 
-  none-among : (m : ℕ) (first : Command) (rs : List Execution) → Within (noArm default (m + length rs) all) (armsFrom order m first all default rs)
+  none-among : (m : ℕ) (first : Command) (rs : List Execution) → Within (noArm default (m + length rs) all) (chosenArm order m first all default rs)
   none-among m first [] = rw (add-zero m) within-refl
   none-among m first (r ∷ rs) = rw (none-later m all rs default) (within-right (none-among (suc m) (seq first (inOrder (r .labels))) rs))
 
@@ -151,7 +152,7 @@ module _ (order : Order) (all : Command) (default : Bool) where
     by-arm : (before : List Execution) (r : Execution) (after : List Execution) → rs ≡ before ++ (r ∷ after) → Runs (armFrom order m first all before r) t o → FromRun m first rs t o
     by-none : Runs (noArm default (m + length rs) all) t o → FromRun m first rs t o
 
-  from-run : (m : ℕ) (first : Command) (rs : List Execution) (t : List PathEvent) (o : Ending) → Runs (armsFrom order m first all default rs) t o → FromRun m first rs t o
+  from-run : (m : ℕ) (first : Command) (rs : List Execution) (t : List PathEvent) (o : Ending) → Runs (chosenArm order m first all default rs) t o → FromRun m first rs t o
   from-run m first [] t o x = by-none (rw (add-zero m) x)
   from-run m first (r ∷ rs) _ _ run-stop = by-arm [] r rs refl run-stop
   from-run m first (r ∷ rs) _ _ (run-left {s = t} {o = o} x) = by-arm [] r rs refl (arm-first order m first all r .forth .go t o x)
@@ -162,23 +163,23 @@ module _ (order : Order) (all : Command) (default : Bool) where
       later (by-none y) = by-none (rw (none-later m all rs default) y)
 
 -- the labels from the first on
-labels-through : (labels : Command) (rs : List Execution) (default : Bool) → Same (cond default (inOrder (labelsOf rs)) labels) (cond default (allLabels rs) (seq skip labels))
+labels-through : (labels : Command) (rs : List Execution) (default : Bool) → Same (cond default (inOrder (labelsInOrder rs)) labels) (cond default (allLabels rs) (seq skip labels))
 labels-through labels rs true = all-labels rs
 labels-through labels rs false = same-skip
 
 arm-chosen : (o : Order) (c : Evaluation) (before : List Execution) (r : Execution) (after : List Execution) → Same (choosesArm o c before r after) (seq (c .value) (armFrom o 0 skip (allLabels (before ++ (r ∷ after))) before r))
 arm-chosen o c before r after =
-    rw (zero-add (length before)) (same-seq same-refl (same-seq same-refl (same-seq (labels-through (seq (inOrder (labelsOf before)) (chosenLabels o (r .labels))) (before ++ (r ∷ after)) (r .isDefault)) same-refl)))
+    rw (zero-add (length before)) (same-seq same-refl (same-seq same-refl (same-seq (labels-through (seq (inOrder (labelsInOrder before)) (chosenLabels o (r .labels))) (before ++ (r ∷ after)) (r .isDefault)) same-refl)))
 
-no-default : (rs : List Execution) → NoDefault rs → hasDefault rs ≡ false
+no-default : (rs : List Execution) → NoDefault rs → hasDefault (λ r. r .isDefault) rs ≡ false
 no-default [] n = refl
 no-default (r ∷ rs) n = rw (n .0) (no-default rs (n .1))
 
-default-nowhere : (rs : List Execution) → hasDefault rs ≡ false → NoDefault rs
+default-nowhere : (rs : List Execution) → hasDefault (λ r. r .isDefault) rs ≡ false → NoDefault rs
 default-nowhere [] e = tt
 default-nowhere (r ∷ rs) e = go (r .isDefault) refl e (default-nowhere rs)
   where
-    go : (d : Bool) → r .isDefault ≡ d → d || hasDefault rs ≡ false → (hasDefault rs ≡ false → NoDefault rs) → NoDefault (r ∷ rs)
+    go : (d : Bool) → r .isDefault ≡ d → d || hasDefault (λ r. r .isDefault) rs ≡ false → (hasDefault (λ r. r .isDefault) rs ≡ false → NoDefault rs) → NoDefault (r ∷ rs)
     go true p q h = absurd (true-not-false q)
     go false p q h = (p, h q)
 
@@ -195,7 +196,7 @@ module _ (sem : Semantics) (x : ℕ) (marks : ℕ → Bool) (s : ℕ) (cs : Fore
     pub every-arm : (before : List Execution) (r : Execution) (after : List Execution) → Within (choosesArm (sem .order) c before r after) (caseRow (before ++ (r ∷ after)))
     every-arm before r after =
         let arms = before ++ (r ∷ after) in
-        within-trans (arm-chosen (sem .order) c before r after .forth) (within-seq within-refl (arm-among (sem .order) (allLabels arms) (hasDefault arms) 0 skip before r after))
+        within-trans (arm-chosen (sem .order) c before r after .forth) (within-seq within-refl (arm-among (sem .order) (allLabels arms) (hasDefault (λ r. r .isDefault) arms) 0 skip before r after))
 
     pub no-arm : (rs : List Execution) → NoDefault rs → Within (choosesNone c rs) (caseRow rs)
     no-arm rs n =
@@ -207,15 +208,15 @@ module _ (sem : Semantics) (x : ℕ) (marks : ℕ → Bool) (s : ℕ) (cs : Fore
     pub only-arms : (rs : List Execution) (t : List PathEvent) (o : Ending) → Runs (caseRow rs) t o → CaseRun (sem .order) c rs t o
     only-arms rs _ _ run-stop = of-scrutinee run-stop
     only-arms rs _ _ (run-off i y) = of-scrutinee (run-off i y)
-    only-arms rs _ _ (run-seq {s = u} {t = t} {o = o} y z) = chosen (from-run (sem .order) (allLabels rs) (hasDefault rs) 0 skip rs t o z)
+    only-arms rs _ _ (run-seq {s = u} {t = t} {o = o} y z) = chosen (from-run (sem .order) (allLabels rs) (hasDefault (λ r. r .isDefault) rs) 0 skip rs t o z)
       where
-        none : (d : Bool) → hasDefault rs ≡ d → Runs (noArm d (0 + length rs) (allLabels rs)) t o → CaseRun (sem .order) c rs (u ++ t) o
+        none : (d : Bool) → hasDefault (λ r. r .isDefault) rs ≡ d → Runs (noArm d (0 + length rs) (allLabels rs)) t o → CaseRun (sem .order) c rs (u ++ t) o
         none true e w = of-scrutinee (run-seq y w)
         none false e w = of-none (default-nowhere rs e) (run-seq y (within-seq within-refl (all-labels rs .back) .go t o (rw (zero-add (length rs)) at w)))
 
-        chosen : FromRun (sem .order) (allLabels rs) (hasDefault rs) 0 skip rs t o → CaseRun (sem .order) c rs (u ++ t) o
+        chosen : FromRun (sem .order) (allLabels rs) (hasDefault (λ r. r .isDefault) rs) 0 skip rs t o → CaseRun (sem .order) c rs (u ++ t) o
         chosen (by-arm before r after e w) = of-arm before r after e (arm-chosen (sem .order) c before r after .back .go (u ++ t) o (run-seq y (rw e at w)))
-        chosen (by-none w) = none (hasDefault rs) refl w
+        chosen (by-none w) = none (hasDefault (λ r. r .isDefault) rs) refl w
 
 -- Rounds
 

@@ -1,4 +1,4 @@
--- A condition that does not come out true.
+-- A condition that does not come out true is false or unknown, and in both it keeps to what its evaluation does.
 use Rattle.paths.specs.Marks.{Mark}
 use Rattle.paths.specs.Triples.{Triple, at, never}
 use Rattle.paths.specs.Evaluation.{is-false, is-unknown, Evaluation}

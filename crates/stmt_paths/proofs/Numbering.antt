@@ -1,4 +1,5 @@
--- The rows of a tree are numbered as those of the table that spells it: row n of the rows from `from` on is row from + n.
+-- The rows of a tree are numbered as those of the table that spells it: row n of the rows from `from` on is row from + n. By induction
+-- over the size of the range: a row, the rows below it, the rows after these.
 use mathlib.Core.Path.{_≡_, refl, subst}
 use mathlib.Core.Bool.{Bool, true, false}
 use mathlib.Core.List.{List, [], _∷_, _++_}
@@ -14,7 +15,7 @@ use Rattle.table.proofs.Fold.{fold-none, fold-some}
 use Rattle.kinds.specs.Kinds.{kinds}
 use Rattle.kinds.specs.Words.{same, placeFrom, kindOf}
 use Rattle.kinds.specs.Named.{kindNumber, numbered}
-use Rattle.stmt_paths.specs.Premises.{Place, PlacedRow, placeOf, placedBelow, placedAt, placedTogether, placedRows, at-row, firstFailing, noRow, rowOf}
+use Rattle.stmt_paths.specs.Premises.{Place, PlacedRow, childPlace, placedBelow, placedAt, placedTogether, placedRows, at-row, firstFailing, noRow, nthRow}
 use Rattle.stmt_paths.proofs.PremiseTest.{HasPremise, is-disable, is-decl, is-nonblocking, is-event, fails-at-premise}
 
 -- row i of the table, wherever it stands
@@ -90,7 +91,7 @@ module _ {rows : List ℕ} {from to : ℕ} (g : Nested rows from to) where
     below-some : Below rows (endAt rows from) to → Below rows from to
     unfolding placedBelow
     below-some after k i above =
-        rw (fold-some placedAt g h) (first-in-order (loAt rows from) (hiAt rows from) (placeOf k i ∷ above) (after k (suc i) above))
+        rw (fold-some placedAt g h) (first-in-order (loAt rows from) (hiAt rows from) (childPlace k i ∷ above) (after k (suc i) above))
 
     together-some : Together rows (endAt rows from) to → Together rows from to
     unfolding placedTogether
@@ -124,11 +125,11 @@ module _ {rows : List ℕ} {from to : ℕ} (g : Nested rows from to) (n : ℕ) w
   in-order = together-by (to - from) (omega arith) g
 
   -- row n of the tree is row from + n of the table
-  pub row-numbered : n < to - from → IsRow rows (from + n) (rowOf (tree rows from to) n)
+  pub row-numbered : n < to - from → IsRow rows (from + n) (nthRow (tree rows from to) n)
   row-numbered l = at in-order n l
 
   -- and there are no more
-  pub row-past : to - from ≤ n → rowOf (tree rows from to) n ≡ noRow
+  pub row-past : to - from ≤ n → nthRow (tree rows from to) n ≡ noRow
   row-past l = past in-order n l
 
   -- a row at which a premise fails is a row of the range
@@ -138,5 +139,5 @@ module _ {rows : List ℕ} {from to : ℕ} (g : Nested rows from to) (n : ℕ) w
       go : (t : Bool) → ltb n (to - from) ≡ t → n < to - from
       go true q = ltb-true n (to - from) q
       go false q =
-          let v : rowOf (tree rows from to) n ≡ noRow = row-past (ltb-false n (to - from) q) in
+          let v : nthRow (tree rows from to) n ≡ noRow = row-past (ltb-false n (to - from) q) in
           absurd (no-premise (subst HasPremise v (fails-at-premise x marks (tree rows from to) n e)))

@@ -1,5 +1,5 @@
--- What the computed test of the premises means: a row passes exactly where its premises hold in the words of demand 3, and the
--- answer is the first row that does not.
+-- What the computed test of the premises means: a row passes exactly where its premises hold in the words of demand 3, and the answer is
+-- the first row that does not. By cases over the kind of a row, then by induction over the list of rows.
 use mathlib.Core.Path.{_≡_, refl, sym, _∙_}
 use mathlib.Core.Logic.{_⊎_, inl, inr, ⊎-elim}
 use mathlib.Core.Bool.{Bool, true, false, cond, _&&_, _||_, not}
@@ -18,13 +18,13 @@ use Rattle.kinds.specs.declared.ExprClass.{ExprClass}
 use Rattle.kinds.specs.declared.ExprClass.the-variants.{Ident, Call, Lident, Opaque, Unary, Binary, Ternary, Paren, Other}
 use Rattle.kinds.specs.Named.{kindNumber, numbered, exprClass}
 use Rattle.kinds.proofs.Below.{both-true, true-not-false}
-use Rattle.reads.specs.declared.Iff.the-variants.{Held}
+use Rattle.reads.specs.declared.Iff.the-variants.{Included}
 use Rattle.reads.specs.PathRows.{isLoopJump}
 use Rattle.reads.specs.Mentions.{roleOf, hasIff, refers}
 use Rattle.reads.specs.Iffs.{iffHere, every, iffAt, iffQuiet}
 use Rattle.paths.specs.Each.{Each}
 use Rattle.paths.proofs.Listed.{each-parts}
-use Rattle.stmt_paths.specs.Premises.{Place, PlacedRow, placeOf, placedBelow, placedAt, placedTogether, placedRows, inLoopBody, inInitOrStep, refersEach, plainEach, nonblockingHolds, nonblockingHere, nonblockingAt, nonblockingQuiet, rowHolds, nowhere, at-row, firstFalse, firstFailing, noRow, rowOf, IsA, RowPremises, Premises}
+use Rattle.stmt_paths.specs.Premises.{Place, PlacedRow, childPlace, placedBelow, placedAt, placedTogether, placedRows, inLoopBody, inInitOrStep, refersEach, plainEach, nonblockingHolds, nonblockingHere, nonblockingQuietAt, nonblockingQuiet, rowHolds, nowhere, at-row, firstFalse, firstFailing, noRow, nthRow, IsA, RowPremises, Premises}
 
 -- One row
 
@@ -68,7 +68,7 @@ module _ (x : ℕ) (marks : ℕ → Bool) (r : PlacedRow) where
   unfolding rowHolds numbered kindNumber kindOf placeFrom kinds same
   nonblocking-test e = rw e
 
-  event-test : IsA "event" r → rowHolds x marks r ≡ not (refers Held x (rest (r .children)))
+  event-test : IsA "event" r → rowHolds x marks r ≡ not (refers Included x (rest (r .children)))
   unfolding rowHolds numbered kindNumber kindOf placeFrom kinds same
   event-test e = rw e
 
@@ -99,7 +99,7 @@ module _ (x : ℕ) (marks : ℕ → Bool) (r : PlacedRow) where
     delays = λ e. not-true (childRefers 0) (assigned e .0);
     intras = λ e. not-true (childRefers 1) (assigned e .1 .0);
     targets = λ e. either-or (childPlain 2) (childRefers 2) (assigned e .1 .1);
-    iffs = λ e. not-true (refers Held x (rest (r .children))) (sym (event-test e) ∙ h);
+    iffs = λ e. not-true (refers Included x (rest (r .children))) (sym (event-test e) ∙ h);
   }
     where
       three : (a b c : Bool) → a && (b && c) ≡ true → (a ≡ true) × ((b ≡ true) × (c ≡ true))
@@ -180,36 +180,36 @@ module _ (x : ℕ) (marks : ℕ → Bool) (f : Forest) where
   pub all-hold : firstFailing x marks f ≡ nowhere → Premises x marks f
   unfolding firstFailing
   all-hold e = record {
-    row = λ n. row-holds x marks (rowOf f n) (sym (nth-holds x marks (placedRows f) n) ∙ all-true 0 (map (rowHolds x marks) (placedRows f)) e n);
+    row = λ n. row-holds x marks (nthRow f n) (sym (nth-holds x marks (placedRows f) n) ∙ all-true 0 (map (rowHolds x marks) (placedRows f)) e n);
   }
 
   pub hold-nowhere : Premises x marks f → firstFailing x marks f ≡ nowhere
   unfolding firstFailing
   hold-nowhere p =
-      true-nowhere 0 (map (rowHolds x marks) (placedRows f)) (λ n. nth-holds x marks (placedRows f) n ∙ holds-row x marks (rowOf f n) (p .row n))
+      true-nowhere 0 (map (rowHolds x marks) (placedRows f)) (λ n. nth-holds x marks (placedRows f) n ∙ holds-row x marks (nthRow f n) (p .row n))
 
   module _ (n : ℕ) (e : firstFailing x marks f ≡ at-row n) where
     told : FalseAt 0 (map (rowHolds x marks) (placedRows f)) n
     unfolding firstFailing
     told = false-at 0 n (map (rowHolds x marks) (placedRows f)) e
 
-    fails-here : rowHolds x marks (rowOf f n) ≡ false
+    fails-here : rowHolds x marks (nthRow f n) ≡ false
     fails-here =
         let e : n ≡ told .place = omega (arith, told .counted) in
         sym (nth-holds x marks (placedRows f) n) ∙ rw e (told .fails)
 
     -- at the row that is given a premise fails
-    pub fails-at : RowPremises x marks (rowOf f n) → ⊥
-    fails-at p = true-not-false (sym (holds-row x marks (rowOf f n) p) ∙ fails-here)
+    pub fails-at : RowPremises x marks (nthRow f n) → ⊥
+    fails-at p = true-not-false (sym (holds-row x marks (nthRow f n) p) ∙ fails-here)
 
     -- it is one of the rows that have one
-    pub fails-at-premise : HasPremise (rowOf f n)
-    fails-at-premise = fails-premise x marks (rowOf f n) fails-here
+    pub fails-at-premise : HasPremise (nthRow f n)
+    fails-at-premise = fails-premise x marks (nthRow f n) fails-here
 
     -- and it is the first
-    pub holds-before : (i : ℕ) → i < n → RowPremises x marks (rowOf f i)
+    pub holds-before : (i : ℕ) → i < n → RowPremises x marks (nthRow f i)
     holds-before i l =
-        row-holds x marks (rowOf f i) (sym (nth-holds x marks (placedRows f) i) ∙ told .before i (omega (arith, told .counted)))
+        row-holds x marks (nthRow f i) (sym (nth-holds x marks (placedRows f) i) ∙ told .before i (omega (arith, told .counted)))
 
 -- The premise on iff
 
@@ -247,8 +247,8 @@ iff-holds x marks r p = go (eqb (r .kind) (numbered "event")) refl
     unreferred true c e = rw e
     unreferred false c e = refl
 
-    go : (b : Bool) → eqb (r .kind) (numbered "event") ≡ b → not (hasIff (roleOf (exprClass (r .kind))) && refers Held x (rest (r .children))) ≡ true
-    go true e = unreferred (hasIff (roleOf (exprClass (r .kind)))) (refers Held x (rest (r .children))) (p .iffs (eqb-true (r .kind) (numbered "event") e))
+    go : (b : Bool) → eqb (r .kind) (numbered "event") ≡ b → not (hasIff (roleOf (exprClass (r .kind))) && refers Included x (rest (r .children))) ≡ true
+    go true e = unreferred (hasIff (roleOf (exprClass (r .kind)))) (refers Included x (rest (r .children))) (p .iffs (eqb-true (r .kind) (numbered "event") e))
     go false e = rw (no-iff (r .kind) e .is)
 
 module _ {A : Type 0} (P : A → Type 0) where
@@ -271,8 +271,8 @@ module _ (here : ℕ → Forest → Bool) (below : Alg Bool) (both : (k s lo hi 
   unfolding placedBelow every
   passes-below k i above no-pair h = refl
   passes-below k i above (pair {x = m} {xs = ms} p ps) h =
-      let hs = each-parts Holds (m (placeOf k i ∷ above)) (placedBelow k (suc i) above ms) h in
-      rw (p .go (placeOf k i ∷ above) (hs .0), passes-below k (suc i) above ps (hs .1))
+      let hs = each-parts Holds (m (childPlace k i ∷ above)) (placedBelow k (suc i) above ms) h in
+      rw (p .go (childPlace k i ∷ above) (hs .0), passes-below k (suc i) above ps (hs .1))
 
   passes-together : {ms : List (List Place → List PlacedRow)} {bs : List Bool} → Pairwise Passes ms bs → Each Holds (placedTogether ms) → every bs ≡ true
   unfolding placedTogether every
@@ -285,14 +285,14 @@ module _ (here : ℕ → Forest → Bool) (below : Alg Bool) (both : (k s lo hi 
   unfolding placedAt
   passes-row k s lo hi cs ps = record { go = λ above h. rw (both k s lo hi cs (fold below cs), h .0 .is, passes-below k 0 above ps (h .1)) }
 
-  every-row : (f : Forest) → ((n : ℕ) → here (rowOf f n .kind) (rowOf f n .children) ≡ true) → every (fold below f) ≡ true
+  every-row : (f : Forest) → ((n : ℕ) → here (nthRow f n .kind) (nthRow f n .children) ≡ true) → every (fold below f) ≡ true
   unfolding placedRows
   every-row f h = passes-together (fold-related placedAt below passes-row f) (each-at Holds noRow (placedRows f) (λ n. record { is = h n }))
 
 -- the premises of demand 3 have in them the one on iff that the laws of references speak of
 pub premises-iff : (x : ℕ) (marks : ℕ → Bool) (f : Forest) → Premises x marks f → iffQuiet x f ≡ true
 unfolding iffQuiet iffAt
-premises-iff x marks f p = every-row (λ k cs. iffHere x (exprClass k) cs) (iffAt x) (λ k s lo hi cs bs. refl) f (λ n. iff-holds x marks (rowOf f n) (p .row n))
+premises-iff x marks f p = every-row (λ k cs. iffHere x (exprClass k) cs) (iffAt x) (λ k s lo hi cs bs. refl) f (λ n. iff-holds x marks (nthRow f n) (p .row n))
 
 -- and those on nonblocking rows
 nonblocking-holds : (x : ℕ) (marks : ℕ → Bool) (r : PlacedRow) → RowPremises x marks r → nonblockingHere x (r .kind) (r .children) ≡ true
@@ -307,5 +307,5 @@ nonblocking-holds x marks r p = go (eqb (r .kind) (numbered "nonblocking")) refl
     go false e = refl
 
 pub premises-nonblocking : (x : ℕ) (marks : ℕ → Bool) (f : Forest) → Premises x marks f → nonblockingQuiet x f ≡ true
-unfolding nonblockingQuiet nonblockingAt
-premises-nonblocking x marks f p = every-row (nonblockingHere x) (nonblockingAt x) (λ k s lo hi cs bs. refl) f (λ n. nonblocking-holds x marks (rowOf f n) (p .row n))
+unfolding nonblockingQuiet nonblockingQuietAt
+premises-nonblocking x marks f p = every-row (nonblockingHere x) (nonblockingQuietAt x) (λ k s lo hi cs bs. refl) f (λ n. nonblocking-holds x marks (nthRow f n) (p .row n))

@@ -21,8 +21,8 @@ use Rattle.paths.specs.Evaluation.{evaluationAt}
 use Rattle.paths.specs.Each.{Each}
 use Rattle.paths.proofs.Listed.{Run, IsRun, followed, eachFollowed, rounds, listed, each-imply, each-expected, loopless}
 use Rattle.paths.proofs.Strength.{Row, row, x, y, w, pathOf, lident, X, Y, W, lit, opaque, absent, not!, and!, plus, event, ident, Extent, whole, up-to, isWhole, shortened, must-list, OnlyBy, only-by}
-use Rattle.stmt_paths.specs.Execution.{Execution, heldAt, executionAt, executed, IsPath}
-use Rattle.stmt_paths.specs.Premises.{placeOf, placedBelow, placedAt, placedTogether, placedRows, refersAt, plainAt, rowHolds, FirstFailing, nowhere, at-row, firstFalse, firstFailing, rowOf, RowPremises, Premises}
+use Rattle.stmt_paths.specs.Execution.{Execution, heldEvaluationsAt, executionAt, executed, IsPath}
+use Rattle.stmt_paths.specs.Premises.{childPlace, placedBelow, placedAt, placedTogether, placedRows, refersAt, plainAt, rowHolds, FirstFailing, nowhere, at-row, firstFalse, firstFailing, nthRow, RowPremises, Premises}
 use Rattle.stmt_paths.proofs.PremiseTest.{all-hold, fails-at}
 
 -- Rows
@@ -590,7 +590,7 @@ cases =
 
 -- The joint fact: what the listing gives of each statement is what is expected of it, in this order.
 pub joint : map shown cases ≡ map (λ c. c .expected) cases
-unfolding fold evaluationAt heldAt executionAt exprClass stmtClass stmtClassIn stmtWords taskEffect numbered kindNumber kindOf placeFrom kinds same isNamed begins count segments isLocal isMarked isLoopJump inRowOrder seenBelow seenAt seen some refers listed eachFollowed followed rounds
+unfolding fold evaluationAt heldEvaluationsAt executionAt exprClass stmtClass stmtClassIn stmtWords taskEffect numbered kindNumber kindOf placeFrom kinds same isNamed begins count segments isLocal isMarked isLoopJump inRowOrder seenBelow seenAt seen some refers listed eachFollowed followed rounds
 joint = refl
 
 -- So each of them can happen
@@ -627,7 +627,7 @@ howMany (true ∷ bs) = suc (howMany bs)
 howMany (false ∷ bs) = howMany bs
 
 pub loopless-cases : howMany (map (λ c. isWhole (c .extent) && loopless (commandOf c)) cases) ≡ 187
-unfolding fold evaluationAt heldAt executionAt exprClass stmtClass stmtClassIn stmtWords taskEffect numbered kindNumber kindOf placeFrom kinds same isNamed begins count segments isLocal isMarked isLoopJump inRowOrder seenBelow seenAt seen some refers loopless
+unfolding fold evaluationAt heldEvaluationsAt executionAt exprClass stmtClass stmtClassIn stmtWords taskEffect numbered kindNumber kindOf placeFrom kinds same isNamed begins count segments isLocal isMarked isLoopJump inRowOrder seenBelow seenAt seen some refers loopless
 loopless-cases = refl
 
 -- Another local, the name 0, and other marks, that of the name 1
@@ -635,7 +635,7 @@ abbrev otherLocal : List Row
 otherLocal = assign (lident (0 ∷ [])) (ident (0 ∷ [])) ∷ disable (1 ∷ []) ∷ disable (j ∷ []) ∷ task (0 ∷ 1 ∷ []) [] 3 ∷ task (x ∷ 1 ∷ []) [] 3 ∷ []
 
 pub joint-others : map (λ r. listed 0 (executed (under row-order) 0 (λ n. eqb n 1) (r nil))) otherLocal ≡ fall ((read ∷ write ∷ []) ∷ []) ∷ ((choice 0 ∷ [], leaves) ∷ (choice 1 ∷ [], again) ∷ []) ∷ fall ([] ∷ []) ∷ fall ((read ∷ []) ∷ []) ∷ fall ([] ∷ []) ∷ []
-unfolding fold evaluationAt heldAt executionAt exprClass stmtClass stmtClassIn stmtWords taskEffect numbered kindNumber kindOf placeFrom kinds same isNamed begins count segments isLocal isMarked isLoopJump inRowOrder seenBelow seenAt seen some refers listed eachFollowed followed rounds
+unfolding fold evaluationAt heldEvaluationsAt executionAt exprClass stmtClass stmtClassIn stmtWords taskEffect numbered kindNumber kindOf placeFrom kinds same isNamed begins count segments isLocal isMarked isLoopJump inRowOrder seenBelow seenAt seen some refers listed eachFollowed followed rounds
 joint-others = refl
 
 -- no execution looks at a span
@@ -732,19 +732,19 @@ sheets = disables ++ declarations ++ later ++ iffs ++ firsts
 
 -- The joint fact of the premises: they fail first where they must, and nowhere on the sheets that meet them.
 pub joint-premises : map (λ p. firstFailing x marks (p .0 nil)) sheets ≡ map (λ p. p .1) sheets
-unfolding fold exprClass numbered kindNumber kindOf placeFrom kinds same isNamed begins count segments isLocal isMarked isLoopJump inRowOrder seenBelow seenAt seen some refers rest placeOf placedBelow placedAt placedTogether placedRows refersAt plainAt rowHolds firstFalse firstFailing
+unfolding fold exprClass numbered kindNumber kindOf placeFrom kinds same isNamed begins count segments isLocal isMarked isLoopJump inRowOrder seenBelow seenAt seen some refers rest childPlace placedBelow placedAt placedTogether placedRows refersAt plainAt rowHolds firstFalse firstFailing
 joint-premises = refl
 
 -- the local's name may have the number 0, which is the side of most rows: a select of it is not the plain local
 pub joint-zero : firstFailing 0 marks (assignLater (lident (0 ∷ [])) lit nil) ∷ firstFailing 0 marks (assignLater (bitOf (lident (0 ∷ [])) lit) lit nil) ∷ [] ≡ nowhere ∷ at-row 0 ∷ []
-unfolding fold exprClass numbered kindNumber kindOf placeFrom kinds same isNamed begins count segments isLocal isMarked isLoopJump inRowOrder seenBelow seenAt seen some refers rest placeOf placedBelow placedAt placedTogether placedRows refersAt plainAt rowHolds firstFalse firstFailing
+unfolding fold exprClass numbered kindNumber kindOf placeFrom kinds same isNamed begins count segments isLocal isMarked isLoopJump inRowOrder seenBelow seenAt seen some refers rest childPlace placedBelow placedAt placedTogether placedRows refersAt plainAt rowHolds firstFalse firstFailing
 joint-zero = refl
 
 -- So the premises, in their own words, hold on the sheets that meet them, and fail at the row that is given of the others
 
 abbrev pub Told : Row → FirstFailing → Type 0
 Told what nowhere = Premises x marks (what nil)
-Told what (at-row n) = RowPremises x marks (rowOf (what nil) n) → ⊥
+Told what (at-row n) = RowPremises x marks (nthRow (what nil) n) → ⊥
 
 told : (what : Row) (answer : FirstFailing) → firstFailing x marks (what nil) ≡ answer → Told what answer
 told what nowhere e = all-hold x marks (what nil) e

@@ -1,7 +1,8 @@
--- The rules of triples at the forms of specs/Execution that know an order. In free order no part counts what another writes.
+-- The rules of triples at the forms of specs/Execution that know an order. In free order no part counts what another writes. Lists by
+-- induction over them.
 use mathlib.Core.List.{List}
 use Rattle.paths.specs.Marks.{Mark, _⊑_, ⊑-refl}
-use Rattle.paths.specs.Semantics.{Order, row-order, free-order, InFreeOrder, not-asked, holds}
+use Rattle.paths.specs.Semantics.{Order, row-order, free-order, InFreeOrder, not-asked, is-met}
 use Rattle.paths.specs.Commands.{Command}
 use Rattle.paths.specs.Triples.{Triple, at, never}
 use Rattle.paths.specs.Evaluation.{Evaluation, writeIf}
@@ -9,7 +10,7 @@ use Rattle.paths.specs.Evaluates.{Evaluates, AllEvaluate, no-more, one-more}
 use Rattle.paths.proofs.Rules.{rule-skip, rule-seq, rule-alt}
 use Rattle.paths.proofs.AnyOrder.{Keeps, the-first, rule-any-gains}
 use Rattle.paths.proofs.Evaluating.{in-order, all-together, evaluates-lift, write-keeps}
-use Rattle.stmt_paths.specs.Execution.{throughOne, chosenLabels, assignment, orNot, nonblocking}
+use Rattle.stmt_paths.specs.Execution.{throughOne, chosenLabels, blockingAssignment, orNot, nonblockingAssignment}
 
 -- the labels of the chosen arm
 through-one : {m : Mark} {es : List Evaluation} → AllEvaluate m es → Keeps m (throughOne es)
@@ -46,7 +47,7 @@ right-keeps h = record { more = ⊑-refl; keeps = h .value; gains = h .value }
 
 -- an assignment: everything but the write is asked from `a` on alone
 pub assignment-so : (o : Order) {a b c : Mark} {delays : List Evaluation} {event target right : Evaluation} → AllEvaluate a delays → Evaluates a a event → Target a b c target → Right a b right
-    → Triple a (assignment o delays event target right) (at c) never
+    → Triple a (blockingAssignment o delays event target right) (at c) never
 assignment-so row-order d e t v = rule-seq (v .gains) (rule-seq (in-order (lift-each (v .more) d)) (rule-seq (evaluates-lift (v .more) e .value) (t .store)))
 assignment-so free-order d e t v = rule-seq (rule-any-gains (v .more) _ (v .keeps, (all-together free-order d, (e .value, (t .selects, tt)))) (the-first (v .gains))) (t .write)
 
@@ -60,6 +61,6 @@ or-not : {m : Mark} {c : Command} → Keeps m c → Keeps m (orNot c)
 or-not h = rule-alt h rule-skip
 
 pub nonblocking-so : (o : Order) {a b : Mark} {delays : List Evaluation} {event target right : Evaluation} → InFreeOrder (Others a delays event target) o → Right a b right
-    → Triple a (nonblocking o delays event target right) (at b) never
+    → Triple a (nonblockingAssignment o delays event target right) (at b) never
 nonblocking-so row-order not-asked v = v .gains
-nonblocking-so free-order (holds h) v = rule-any-gains (v .more) _ (v .keeps, (or-not (all-together free-order (h .delays)), (or-not (h .event), (or-not (h .selects), tt)))) (the-first (v .gains))
+nonblocking-so free-order (is-met h) v = rule-any-gains (v .more) _ (v .keeps, (or-not (all-together free-order (h .delays)), (or-not (h .event), (or-not (h .selects), tt)))) (the-first (v .gains))

@@ -10,14 +10,14 @@ use Rattle.table.specs.Fold.{fold, nth, Pairwise, no-pair, pair}
 use Rattle.table.proofs.Fold.{fold-related, related-at, related-tail}
 use Rattle.kinds.specs.declared.StmtClass.{StmtClass}
 use Rattle.kinds.specs.declared.StmtClass.the-variants.{Absent, Match, Default, Decl, Blocking, Nonblocking, If, Return, Case, For, While, Repeat, Forever, Block, Fork, Systask, Task, Delayctrl, Eventctrl, Wait, Disable, Null, Unmodelled, NoStmt}
-use Rattle.kinds.specs.Named.{stmtClass}
+use Rattle.kinds.specs.Named.{stmtClass, hasDefault}
 use Rattle.paths.specs.Commands.{PathEvent, out-of-loop, out-of-round, Command, run-skip, run-seq, run-right}
 use Rattle.paths.specs.Semantics.{row-order, free-order, under}
 use Rattle.paths.specs.Evaluation.{is-true, is-false, is-unknown, Evaluation, inOrder, noEvaluation}
 use Rattle.paths.proofs.Within.{Within, within-refl, within-trans, within-seq, within-alt, within-right, within-star, within-catch, within-then, same-assoc}
 use Rattle.paths.proofs.AnyOrder.{as-they-stand, every-order}
 use Rattle.paths.proofs.WithinFree.{EvaluationWithin, none-within, together-within, evaluations-within}
-use Rattle.stmt_paths.specs.Execution.{Execution, plain, noExecution, unmet, oneByOne, allLabels, hasDefault, noArm, chosenLabels, armsFrom, caseOf, loop, assignment, nonblocking, executionOf, heldAt, heldEvaluations, executionAt, executions, executed, IsPath}
+use Rattle.stmt_paths.specs.Execution.{Execution, plain, noExecution, unmet, oneByOne, allLabels, noArm, chosenLabels, chosenArm, caseStatement, loop, blockingAssignment, nonblockingAssignment, executionOf, heldEvaluationsAt, heldEvaluations, executionAt, executions, executed, IsPath}
 
 -- however the row runs, its labels, and whether it is a default
 record ExecutionWithin (r q : Execution) : Type 0 where
@@ -56,7 +56,7 @@ chosen-labels-within no-pair = within-refl
 chosen-labels-within (pair p ps) = within-seq (p .value) (within-right (chosen-labels-within ps))
 
 -- a case
-same-default : {rs qs : List Execution} → Pairwise ExecutionWithin rs qs → hasDefault rs ≡ hasDefault qs
+same-default : {rs qs : List Execution} → Pairwise ExecutionWithin rs qs → hasDefault (λ r. r .isDefault) rs ≡ hasDefault (λ r. r .isDefault) qs
 same-default no-pair = refl
 same-default (pair p ps) = rw (p .default, same-default ps)
 
@@ -68,14 +68,14 @@ chosen-within : (a b : Bool) {c d c′ d′ : Command} → a ≡ b → Within c 
 chosen-within a b e p q = rw e (cond-within b p q)
 
 arms-within : (n : ℕ) (default : Bool) {rs qs : List Execution} {before before′ all all′ : Command} → Pairwise ExecutionWithin rs qs → Within before before′ → Within all all′
-    → Within (armsFrom row-order n before all default rs) (armsFrom free-order n before′ all′ default qs)
+    → Within (chosenArm row-order n before all default rs) (chosenArm free-order n before′ all′ default qs)
 arms-within n default no-pair p q = no-arm-within default n q
 arms-within n default (pair {x = r} {y = s} h hs) p q =
     within-alt (within-seq within-refl (within-seq (chosen-within (r .isDefault) (s .isDefault) (h .default) q (within-seq p (chosen-labels-within (h .labels)))) (h .run)))
     (arms-within (suc n) default hs (within-seq p (in-order-within (h .labels))) q)
 
-case-within : {e d : Evaluation} {rs qs : List Execution} → EvaluationWithin e d → Pairwise ExecutionWithin rs qs → Within (caseOf row-order e rs) (caseOf free-order d qs)
-case-within {qs = qs} p ps = within-seq (p .value) (rw (same-default ps) (arms-within 0 (hasDefault qs) ps within-refl (labels-within ps)))
+case-within : {e d : Evaluation} {rs qs : List Execution} → EvaluationWithin e d → Pairwise ExecutionWithin rs qs → Within (caseStatement row-order e rs) (caseStatement free-order d qs)
+case-within {qs = qs} p ps = within-seq (p .value) (rw (same-default ps) (arms-within 0 (hasDefault (λ r. r .isDefault) qs) ps within-refl (labels-within ps)))
 
 -- a loop
 loop-within : (s : ℕ) {h b t e h′ b′ t′ e′ : Command} → Within h h′ → Within b b′ → Within t t′ → Within e e′ → Within (loop s h b t e) (loop s h′ b′ t′ e′)
@@ -86,14 +86,14 @@ loop-within s p q r i =
 
 -- an assignment: the four as they stand, then the write, which row order has in one with the selects
 module _ {ds ds′ : List Evaluation} {e e′ t t′ v v′ : Evaluation} (pd : Pairwise EvaluationWithin ds ds′) (pe : EvaluationWithin e e′) (pt : EvaluationWithin t t′) (pv : EvaluationWithin v v′) where
-  assignment-within : Within (assignment row-order ds e t v) (assignment free-order ds′ e′ t′ v′)
+  assignment-within : Within (blockingAssignment row-order ds e t v) (blockingAssignment free-order ds′ e′ t′ v′)
   assignment-within =
       within-trans (within-seq (pv .value) (within-seq (together-within pd) (within-seq (pe .value) (within-trans (pt .store) (within-seq (within-then run-skip within-refl) within-refl)))))
       (within-trans (within-seq within-refl (within-trans (within-seq within-refl (same-assoc .forth)) (same-assoc .forth)))
       (within-trans (same-assoc .forth) (within-seq (every-order (as-they-stand _)) within-refl)))
 
   -- a nonblocking: the right side, and none of the others
-  nonblocking-within : Within (nonblocking row-order ds e t v) (nonblocking free-order ds′ e′ t′ v′)
+  nonblocking-within : Within (nonblockingAssignment row-order ds e t v) (nonblockingAssignment free-order ds′ e′ t′ v′)
   nonblocking-within =
       within-trans (within-then (run-seq (run-right run-skip) (run-seq (run-right run-skip) (run-seq (run-right run-skip) run-skip))) (pv .value))
       (every-order (as-they-stand _))
@@ -133,7 +133,7 @@ module _ (x : ℕ) (marks : ℕ → Bool) (s : ℕ) (cs : Forest) {es ds : List 
   class-within NoStmt = nothing-within
 
 held-within : (x : ℕ) (f : Forest) → Pairwise EvaluationWithin (nth [] 0 (heldEvaluations (under row-order) x f)) (nth [] 0 (heldEvaluations (under free-order) x f))
-unfolding fold heldAt
+unfolding fold heldEvaluationsAt
 held-within x nil = no-pair
 held-within x (node k s lo hi cs others) = evaluations-within x cs
 

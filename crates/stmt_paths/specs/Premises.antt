@@ -10,7 +10,7 @@ use lib.Dec.{eqb}
 use Rattle.table.specs.Rows.{Forest, nil, node, rest}
 use Rattle.table.specs.Fold.{Alg, fold, nth}
 use Rattle.kinds.specs.Named.{numbered}
-use Rattle.reads.specs.declared.Iff.the-variants.{Held}
+use Rattle.reads.specs.declared.Iff.the-variants.{Included}
 use Rattle.reads.specs.PathRows.{isLocal, isLoopJump}
 use Rattle.reads.specs.Mentions.{refers}
 use Rattle.reads.specs.Iffs.{every}
@@ -20,8 +20,8 @@ pub data Place : Type 0 where
   loop-body init-or-step elsewhere : Place
 
 -- "for S E S S (init, cond, step, body); while E S; repeat E S; forever S"
-unfoldable pub placeOf : ℕ → ℕ → Place
-placeOf k i =
+unfoldable pub childPlace : ℕ → ℕ → Place
+childPlace k i =
     cond (eqb k (numbered "for")) (cond (eqb i 3) loop-body (cond (eqb i 0 || eqb i 2) init-or-step elsewhere))
     (cond (eqb k (numbered "while") || eqb k (numbered "repeat")) (cond (eqb i 1) loop-body elsewhere)
     (cond (eqb k (numbered "forever")) (cond (eqb i 0) loop-body elsewhere)
@@ -37,7 +37,7 @@ pub record PlacedRow : Type 0 where
 -- the rows below a row of kind k from its child number i on, in row order
 unfoldable pub placedBelow : ℕ → ℕ → List Place → List (List Place → List PlacedRow) → List PlacedRow
 placedBelow k i above [] = []
-placedBelow k i above (m ∷ ms) = m (placeOf k i ∷ above) ++ placedBelow k (suc i) above ms
+placedBelow k i above (m ∷ ms) = m (childPlace k i ∷ above) ++ placedBelow k (suc i) above ms
 
 -- a row and the rows below it, by the places that it stands under
 unfoldable pub placedAt : Alg (List Place → List PlacedRow)
@@ -68,7 +68,7 @@ inInitOrStep (elsewhere ∷ above) = inInitOrStep above
 
 -- "to refer is to be or hold": whether a row refers
 unfoldable pub refersAt : ℕ → Alg Bool
-refersAt x k s lo hi cs bs = refers Held x (node k s lo hi cs nil)
+refersAt x k s lo hi cs bs = refers Included x (node k s lo hi cs nil)
 
 -- whether each of these siblings does
 abbrev pub refersEach : ℕ → Forest → List Bool
@@ -92,12 +92,12 @@ unfoldable pub nonblockingHere : ℕ → ℕ → Forest → Bool
 nonblockingHere x k cs = cond (eqb k (numbered "nonblocking")) (nonblockingHolds (refersEach x cs) (plainEach x cs)) true
 
 -- and the rows below it
-unfoldable pub nonblockingAt : ℕ → Alg Bool
-nonblockingAt x k s lo hi cs bs = nonblockingHere x k cs && every bs
+unfoldable pub nonblockingQuietAt : ℕ → Alg Bool
+nonblockingQuietAt x k s lo hi cs bs = nonblockingHere x k cs && every bs
 
 -- the premises of demand 3 on nonblocking rows, of all rows of these siblings
 unfoldable pub nonblockingQuiet : ℕ → Forest → Bool
-nonblockingQuiet x f = every (fold (nonblockingAt x) f)
+nonblockingQuiet x f = every (fold (nonblockingQuietAt x) f)
 
 -- the test of one row, by the word of its kind; "an inner declaration is a decl"
 unfoldable pub rowHolds : ℕ → (ℕ → Bool) → PlacedRow → Bool
@@ -105,7 +105,7 @@ rowHolds x marks r =
     cond (eqb (r .kind) (numbered "disable")) (isLoopJump marks (r .children) && (inLoopBody (r .above) && not (inInitOrStep (r .above))))
     (cond (eqb (r .kind) (numbered "decl")) (not (eqb (r .side) x))
     (cond (eqb (r .kind) (numbered "nonblocking")) (nonblockingHolds (refersEach x (r .children)) (plainEach x (r .children)))
-    (cond (eqb (r .kind) (numbered "event")) (not (refers Held x (rest (r .children))))
+    (cond (eqb (r .kind) (numbered "event")) (not (refers Included x (rest (r .children))))
     true)))
 
 -- where a premise fails first
@@ -127,8 +127,8 @@ abbrev pub noRow : PlacedRow
 noRow = record { kind = numbered "none"; side = 0; children = nil; above = [] }
 
 -- row number n
-abbrev pub rowOf : Forest → ℕ → PlacedRow
-rowOf f n = nth noRow n (placedRows f)
+abbrev pub nthRow : Forest → ℕ → PlacedRow
+nthRow f n = nth noRow n (placedRows f)
 
 -- the row is of the kind with this word
 abbrev pub IsA : String → PlacedRow → Type 0
@@ -153,8 +153,8 @@ pub record RowPremises (x : ℕ) (marks : ℕ → Bool) (r : PlacedRow) : Type 0
   -- "a nonblocking target is the plain local or doesn't refer to it"
   pub targets : IsA "nonblocking" r → (nth false 2 (plainEach x (r .children)) ≡ true) ⊎ (nth false 2 (refersEach x (r .children)) ≡ false)
   -- "and iff never refer to it"
-  pub iffs : IsA "event" r → refers Held x (rest (r .children)) ≡ false
+  pub iffs : IsA "event" r → refers Included x (rest (r .children)) ≡ false
 
 -- at every row
 pub record Premises (x : ℕ) (marks : ℕ → Bool) (f : Forest) : Type 0 where
-  pub row : (n : ℕ) → RowPremises x marks (rowOf f n)
+  pub row : (n : ℕ) → RowPremises x marks (nthRow f n)

@@ -1,11 +1,13 @@
--- The laws of every fold over the rows of a range.
+-- The laws of every fold over the rows of a range, from those of `tree`: no rows, a first row, a cut between siblings. Two folds are related
+-- where their rules keep the relation. The inductions are on the tree.
 use mathlib.Core.Path.{_≡_, refl, _∙_}
 use mathlib.Core.Bool.{Bool, true, false}
 use lib.Dec.{ltb}
 use borrow.Author.Tests.{ltb-true}
 use mathlib.Core.List.{List, [], _∷_, _++_}
 use Prim.Native.Nat.{ℕ, zero, suc, _+_, _≤_, _<_}
-use Rattle.table.specs.Rows.{kindAt, sideAt, loAt, hiAt, endAt, Forest, nil, node, tree, Nested, append, rest, nextOf}
+use Rattle.table.specs.Rows.{kindAt, sideAt, loAt, hiAt, endAt, Forest, nil, node, tree, Nested, append, rest}
+use Rattle.table.specs.Steps.{nextOf}
 use Rattle.table.specs.Fold.{Alg, fold, nth, tail, Pairwise, no-pair, pair}
 use Rattle.table.proofs.Ranges.{ends-after, alone}
 use Rattle.table.proofs.Tree.{tree-none, tree-some, tree-after, tree-next, cut}

@@ -1,9 +1,11 @@
--- What a loop over siblings keeps, whatever it works out of them.
+-- What a loop over siblings keeps, whatever it works out of them: what is told of those before it, before what is told of those left. Each step
+-- is one law of a fold; the rows left fall.
 use mathlib.Core.Path.{_≡_, refl, _∙_}
 use mathlib.Core.List.{List}
 use Prim.Native.Nat.{ℕ, _-_, _≤_, _<_}
 use native.Mathlib.Omega.{arith}
-use Rattle.table.specs.Rows.{Nested, RowEnd}
+use Rattle.table.specs.Rows.{Nested}
+use Rattle.table.specs.Steps.{RowEnd}
 
 -- a loop over the siblings from `from` up to `to` that has come to row i: what is left gives what the whole gives
 pub record Goes {A : Type 0} (rows : List ℕ) (from to i : ℕ) (whole left : A) : Type 0 where

@@ -1,4 +1,5 @@
--- The ranges of rows that nest with a range that does: from a later row on, a row alone, its children, the rows after it.
+-- The ranges of rows that nest with a range that does: from a later row on, a row alone, its children, the rows after it. Nesting is said of
+-- every row of a range, so that a part of the range has it by less.
 use mathlib.Core.Path.{_≡_, refl, _∙_}
 use mathlib.Core.Bool.{Bool, true, false}
 use mathlib.Core.List.{List}
@@ -6,7 +7,8 @@ use Prim.Native.Nat.{ℕ, _+_, _≤_, _<_}
 use native.Mathlib.Omega.{arith}
 use lib.Dec.{ltb}
 use borrow.Author.Tests.{ltb-true, ltb-false, lt-ltb, le-ltb}
-use Rattle.table.specs.Rows.{endAt, Nested, RowEnd, NextRow}
+use Rattle.table.specs.Rows.{endAt, Nested}
+use Rattle.table.specs.Steps.{RowEnd, NextRow}
 
 -- from a later row on
 pub later : {rows : List ℕ} {from to : ℕ} → Nested rows from to → (i : ℕ) → from ≤ i → i ≤ to → Nested rows i to

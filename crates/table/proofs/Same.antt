@@ -1,4 +1,5 @@
--- The tree of a range depends on the numbers of its rows alone.
+-- The tree of a range depends on the numbers of its rows alone: two tables that agree on them spell it alike. The induction is on how far the
+-- reading may go.
 use mathlib.Core.Path.{_≡_, refl, sym}
 use mathlib.Core.Bool.{Bool, true, false}
 use mathlib.Core.List.{List, _++_}

@@ -1,4 +1,5 @@
--- The laws of `tree`, which is all that other files know of it: no rows, a first row, a cut between siblings, the next sibling.
+-- The laws of `tree`, which is all that other files know of it: no rows, a first row, a cut between siblings, the next sibling. That more room to
+-- read on changes nothing is by induction on that room, and a cut by induction on the rows of its first part.
 use mathlib.Core.Path.{_≡_, refl, sym, _∙_}
 use mathlib.Core.Bool.{Bool, true, false}
 use mathlib.Core.List.{List}
@@ -6,7 +7,8 @@ use Prim.Native.Nat.{ℕ, zero, suc, _+_, _-_, _≤_, _<_}
 use native.Mathlib.Omega.{arith}
 use lib.Dec.{ltb}
 use borrow.Author.Tests.{ltb-true, ltb-false, lt-ltb, le-ltb}
-use Rattle.table.specs.Rows.{kindAt, sideAt, loAt, hiAt, endAt, nil, node, treeBy, tree, Nested, append, rest, nextOf}
+use Rattle.table.specs.Rows.{kindAt, sideAt, loAt, hiAt, endAt, nil, node, treeBy, tree, Nested, append, rest}
+use Rattle.table.specs.Steps.{nextOf}
 use Rattle.table.proofs.Ranges.{later, ends-after, ends-within, others, alone, children}
 
 by-none : (n : ℕ) (rows : List ℕ) (from to : ℕ) → to ≤ from → treeBy n rows from to ≡ nil

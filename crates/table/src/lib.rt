@@ -3,7 +3,8 @@
 ghost use mathlib.Core.Path.{_≡_};
 ghost use Prim.Native.Nat.{_+_, _*_, _<_};
 ghost use lib.ListN.{length};
-ghost use Rattle.table.specs.Rows.{kindAt, sideAt, loAt, hiAt, endAt, Nested, RowEnd, NextRow};
+ghost use Rattle.table.specs.Rows.{kindAt, sideAt, loAt, hiAt, endAt, Nested};
+ghost use Rattle.table.specs.Steps.{RowEnd, NextRow};
 
 // A number of the table as an index.
 pub fn wide(x: u32) -> usize

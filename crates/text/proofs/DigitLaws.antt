@@ -1,4 +1,5 @@
--- What the digits that `number` reads at a place tell of the field there: where it ends, and what it spells.
+-- What the digits that `number` reads at a place tell of the field there: where it ends, and what it spells. Reading stops early where a number is too
+-- large or a zero leads, and then the field spells none. The inductions are on the bytes.
 use Prim.Native.Nat.{ℕ, _+_, _*_, _≤_, _<_, _-_}
 use mathlib.Core.Path.{_≡_, refl, sym, _∙_}
 use mathlib.Core.Bool.{Bool, true, false, cond, _&&_, and-eq-true-iff}
@@ -7,9 +8,9 @@ use native.Mathlib.Omega.{arith}
 use lib.ListN.{drop}
 use lib.Dec.{eqb, leb}
 use borrow.Author.Tests.{leb-true, leb-false, lt-leb, eqb-true, ne-eqb}
-use Rattle.text.specs.Fields.{isStop, fieldLength, fieldOf, field, stopAt, stands, afterByte, endsBy}
+use Rattle.text.specs.Fields.{isStop, fieldLength, fieldOf, field, stopAt, stands, endsBy}
+use Rattle.text.specs.Steps.{afterByte, goesOn, moreValue, moreCount, firstValue, firstCount, FirstRead, nextField, fieldNumber}
 use Rattle.text.specs.Numbers.{Spelled, none, isDigit, allDigits, isEmpty, zeroFirst, decimal, bounded, numberOf}
-use Rattle.text.specs.Runs.{goesOn, moreValue, moreCount, firstValue, firstCount, FirstRead, nextField, fieldNumber}
 use Rattle.text.proofs.Stops.{byte-stands, byte-missing}
 use Rattle.text.proofs.FieldReads.{Reads, reads-all, reads-none, reads-more, rest-stop, here, told-all, told-some}
 

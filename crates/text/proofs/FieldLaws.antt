@@ -1,4 +1,5 @@
--- What a caller knows of a key, a field or a line from the place that a call gives it.
+-- What a caller knows of a key, a field or a line from the place that a call gives it: 0 stands for what is not there, and the laws say which of the
+-- two it is. No induction: the definitions are opened once, here.
 use Prim.Native.Nat.{ℕ, _+_, _-_, _≤_, _<_}
 use mathlib.Core.Path.{_≡_, refl, sym, _∙_}
 use mathlib.Core.Bool.{Bool, true, false, cond, and-eq-true-iff, true≢false}
@@ -8,9 +9,9 @@ use native.Mathlib.Omega.{arith}
 use lib.Dec.{eqb, ltb}
 use lib.ListN.{length, take, drop}
 use borrow.Author.Tests.{ltb-true, eqb-true, eqb-false}
-use Rattle.text.specs.Fields.{fieldLength, fieldOf, field, stopAt, stands, endsBy, after, startsWith, afterKey, allGraphic}
+use Rattle.text.specs.Fields.{fieldLength, fieldOf, field, stopAt, stands, endsBy, after, startsWith, allGraphic}
+use Rattle.text.specs.Steps.{afterKey, nextField, fieldNumber, graphicLength, GraphicRead}
 use Rattle.text.specs.Numbers.{bounded, numberOf}
-use Rattle.text.specs.Runs.{nextField, fieldNumber, graphicLength, GraphicRead}
 use Rattle.text.proofs.Stops.{byte-stands, byte-after, byte-missing}
 use Rattle.text.proofs.FieldReads.{whole-stop}
 use Rattle.text.proofs.GraphicLaws.{shows}

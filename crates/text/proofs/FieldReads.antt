@@ -1,4 +1,5 @@
--- Bytes read from the front of a field, and what they tell of the whole of it.
+-- Bytes read from the front of a field, and what they tell of the whole of it: if no stop is among them the field goes on where they end. The induction
+-- is on the bytes.
 use Prim.Native.Nat.{ℕ, suc, _+_}
 use mathlib.Core.Path.{_≡_, refl, sym, _∙_}
 use mathlib.Core.Bool.{true, false, and-eq-true-iff, true≢false}

@@ -1,4 +1,5 @@
--- What the bytes from 33 to 126 that `graphic_line` reads at a place tell of the line there.
+-- What the bytes from 33 to 126 that `graphic_line` reads at a place tell of the line there: they are all of it, or one that is not such stops
+-- them. The induction is on the bytes.
 use Prim.Native.Nat.{ℕ, _+_}
 use mathlib.Core.Path.{_≡_, refl, sym, _∙_}
 use mathlib.Core.Bool.{Bool, true, false, _&&_, and-eq-true-iff}
@@ -7,8 +8,8 @@ use native.Mathlib.Omega.{arith}
 use lib.Dec.{leb}
 use lib.ListN.{drop}
 use borrow.Author.Tests.{leb-true, ne-eqb}
-use Rattle.text.specs.Fields.{isStop, fieldLength, fieldOf, field, stopAt, stands, afterByte, endsBy, isGraphic, allGraphic}
-use Rattle.text.specs.Runs.{nextField, graphicLength, GraphicRead}
+use Rattle.text.specs.Fields.{isStop, fieldLength, fieldOf, field, stopAt, stands, endsBy, isGraphic, allGraphic}
+use Rattle.text.specs.Steps.{afterByte, nextField, graphicLength, GraphicRead}
 use Rattle.text.proofs.Stops.{byte-stands, byte-missing}
 use Rattle.text.proofs.FieldReads.{Reads, reads-all, reads-none, reads-more, rest-stop, here, told-all, told-some}
 

@@ -1,4 +1,5 @@
--- Byte order, byte by byte.
+-- Byte order, byte by byte: while two texts are alike, their order is that of what is left of them, and the first difference decides. The bytes left
+-- fall.
 use Prim.Native.Nat.{ℕ, _+_, _≤_, _<_}
 use mathlib.Core.Path.{_≡_, refl, sym, _∙_}
 use mathlib.Core.Bool.{Bool, true, false}

@@ -1,4 +1,4 @@
--- Whether a text stands at a place, byte by byte.
+-- Whether a text stands at a place, byte by byte: while all were alike, it stands there exactly where the rest does. The bytes of the key left fall.
 use Prim.Native.Nat.{ℕ, _+_, _≤_, _<_, _-_}
 use mathlib.Core.Path.{_≡_, refl, _∙_}
 use mathlib.Core.Bool.{false, and-false}
@@ -9,7 +9,8 @@ use native.Mathlib.Omega.{arith}
 use lib.ListN.{length, drop, getD, drop-of-length-le, length-drop}
 use lib.Seq.{drop-cons}
 use borrow.Author.Tests.{eq-eqb, ne-eqb}
-use Rattle.text.specs.Fields.{startsWith, afterKey}
+use Rattle.text.specs.Fields.{startsWith}
+use Rattle.text.specs.Steps.{afterKey}
 
 -- a text that is longer than what it is to begin
 pub too-long : (key t : List ℕ) → length t < length key → startsWith key t ≡ false

@@ -1,4 +1,5 @@
--- How far a number's digits and a name's bytes go, byte by byte.
+-- How far a number's digits and a name's bytes go, byte by byte: the value and the count so far, with what the bytes left add, are those of the whole. The
+-- bytes left fall.
 use Prim.Native.Nat.{ℕ, _+_, _*_, _≤_, _<_, _-_}
 use mathlib.Core.Path.{_≡_, refl, sym, _∙_}
 use mathlib.Core.Bool.{Bool, true, false, not, _&&_, true≢false}
@@ -12,7 +13,7 @@ use lib.Seq.{drop-cons}
 use borrow.Author.Tests.{leb-true, le-leb, lt-leb, eq-eqb, ne-eqb, not-true, not-false}
 use Rattle.text.specs.Fields.{byteAt, isGraphic}
 use Rattle.text.specs.Numbers.{isDigit}
-use Rattle.text.specs.Runs.{goesOn, moreValue, moreCount, firstValue, firstCount, DigitValue, MoreRead, FirstRead, graphicLength}
+use Rattle.text.specs.Steps.{goesOn, moreValue, moreCount, firstValue, firstCount, DigitValue, MoreRead, FirstRead, graphicLength}
 
 pub small : (b : ℕ) → b < 48 → false ≡ isDigit b
 unfolding isDigit

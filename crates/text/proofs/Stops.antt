@@ -1,4 +1,4 @@
--- Where a field stops, byte by byte.
+-- Where a field stops, byte by byte: while no stop was met, the field stops where what is left does. The bytes left fall.
 use Prim.Native.Nat.{ℕ, _+_, _≤_, _<_}
 use mathlib.Core.Path.{_≡_, refl, sym, _∙_}
 use mathlib.Core.Bool.{Bool, true, false, cond, and-false}
@@ -10,7 +10,8 @@ use lib.Dec.{eqb}
 use lib.ListN.{length, drop-of-length-le}
 use lib.Seq.{drop-cons}
 use borrow.Author.Tests.{eq-eqb, ne-eqb, lt-ltb, le-ltb}
-use Rattle.text.specs.Fields.{byteAt, isStop, fieldLength, stopAt, stands, afterByte}
+use Rattle.text.specs.Fields.{byteAt, isStop, fieldLength, stopAt, stands}
+use Rattle.text.specs.Steps.{afterByte}
 
 pub stop-sep : (sep b : ℕ) → b ≡ sep → true ≡ isStop sep b
 unfolding isStop

@@ -33,10 +33,6 @@ stopAt sep s at = at + fieldLength sep (drop at s)
 unfoldable pub stands : ℕ → List ℕ → ℕ → Bool
 stands byte s at = ltb at (length s) && eqb (byteAt s at) byte
 
--- the place after this byte, if it stands at a place, and 0 if not
-unfoldable pub afterByte : ℕ → List ℕ → ℕ → ℕ
-afterByte byte s at = cond (stands byte s at) (at + 1) 0
-
 -- whether the field at a place is ended by this byte
 unfoldable pub endsBy : ℕ → ℕ → List ℕ → ℕ → Bool
 endsBy sep end s at = stands end s (stopAt sep s at)
@@ -50,10 +46,6 @@ unfoldable pub startsWith : List ℕ → List ℕ → Bool
 startsWith [] t = true
 startsWith (x ∷ xs) [] = false
 startsWith (x ∷ xs) (y ∷ ys) = eqb x y && startsWith xs ys
-
--- the place after a key, if it stands at a place, and 0 if not
-unfoldable pub afterKey : List ℕ → List ℕ → ℕ → ℕ
-afterKey key s at = cond (startsWith key (drop at s)) (at + length key) 0
 
 -- "in byte order": whether the first text comes before the second
 unfoldable pub below : List ℕ → List ℕ → Bool

@@ -1,3 +1,3 @@
 pub mod Fields
 pub mod Numbers
-pub mod Runs
+pub mod Steps

@@ -4,9 +4,9 @@ ghost use mathlib.Core.Path.{_≡_};
 ghost use mathlib.Core.Bool.{true};
 ghost use Prim.Native.Nat.{_+_, _≤_, _<_};
 ghost use lib.ListN.{length, drop};
-ghost use Rattle.text.specs.Fields.{isStop, stopAt, afterByte, afterKey, below};
+ghost use Rattle.text.specs.Fields.{isStop, stopAt, below};
+ghost use Rattle.text.specs.Steps.{afterByte, afterKey, DigitValue, MoreRead, FirstRead, nextField, fieldNumber, graphicLength, GraphicRead};
 ghost use Rattle.text.specs.Numbers.{isDigit, bounded};
-ghost use Rattle.text.specs.Runs.{DigitValue, MoreRead, FirstRead, nextField, fieldNumber, graphicLength, GraphicRead};
 
 // The number that a field spells, above 4,294,967,295 where it spells none, and the place after the byte that ends it: 0
 // where that is another byte than it should be, or none.
@@ -29,7 +29,7 @@ pub struct GraphicLine {
     pub next: usize,
 }
 
-fn wide(b: u8) -> u64
+fn u64_of_byte(b: u8) -> u64
     ensures { λ r. ⌜ r ≡ b ⌝ }
 {
     b as u64
@@ -89,7 +89,7 @@ fn digit_value(b: u8) -> u64
     requires { ⌜ isDigit b ≡ true ⌝ }
     ensures { λ r. ⌜ DigitValue b r ⌝ }
 {
-    wide(b) - 48
+    u64_of_byte(b) - 48
 }
 
 // The digits after some whose number is `value`, as far as the number is below 4,294,967,300.
@@ -114,7 +114,7 @@ fn more_digits(s: &[u8], at: usize, value: u64) -> Run
 }
 
 // The digits from a place on: none where no digit stands there, and no more after a zero.
-fn digits(s: &[u8], at: usize) -> Run
+fn first_digits(s: &[u8], at: usize) -> Run
     ensures { λ r. ⌜ FirstRead (now (s .entry)) at (r .stop) (r .value) ⌝ }
 {
     if s.len() <= at {
@@ -145,7 +145,7 @@ pub fn number(s: &[u8], at: usize, sep: u8, end: u8) -> NumberField
     ensures { λ r. ⌜ r .next ≡ nextField sep end (now (s .entry)) at ⌝ }
     ensures { λ r. ⌜ bounded (r .value) ≡ fieldNumber sep end (now (s .entry)) at ⌝ }
 {
-    let read = digits(s, at);
+    let read = first_digits(s, at);
     let stop = read.stop;
     let next = after_byte(s, stop, end);
     if next != 0 {

@@ -1,4 +1,5 @@
--- Demand 3 over bytes: what asking means of the tables, said of the sheet that they were loaded from.
+-- Demand 3 over bytes: what asking means of the tables, said of the sheet that they were loaded from. Tree, marks, local and start of the bytes are
+-- those of the tables, by the laws of a good load.
 use Prim.Native.Nat.{ℕ}
 use mathlib.Core.Path.{_≡_, refl, sym, ap, subst, fun-ext, _∙_}
 use mathlib.Core.Bool.{Bool, true, false, cond}
@@ -9,22 +10,24 @@ use Rattle.table.specs.Rows.{tree}
 use Rattle.sheet_record.specs.declared.Record.{Record}
 use Rattle.sheet_record.specs.Records.{textAt, marksOf}
 use Rattle.lines.specs.Lines.{jumpMark}
-use Rattle.sheet.specs.declared.Refusal.{Refusal}
+use Rattle.refusals.specs.declared.Refusal.{Refusal}
+use Rattle.refusals.specs.Refusals.{refusalNumber}
+use Rattle.refusals.proofs.Distinct.{number-some}
 use Rattle.sheet.specs.declared.Loaded.{Loaded}
 use Rattle.sheet.specs.declared.Loaded.the-variants as L
 use Rattle.sheet.specs.Load.{loadOf}
 use Rattle.load.proofs.GoodLoad.{GoodLoad, good-load, load-asked, load-tree, load-marks}
-use Rattle.load.proofs.Refusals.{load-number}
+use Rattle.load.proofs.Refusals.{load-numbers}
 use Rattle.answers.specs.declared.Answer.{Answer}
 use Rattle.answers.specs.declared.Answer.the-variants.{Refused}
-use Rattle.answers.specs.Answers.{AcceptedAnswer}
+use Rattle.answers.specs.Answers.{AcceptedAnswer, numbersOf}
 use Rattle.ask.specs.Ask.{rowTree, walked, askOf}
 use Rattle.ask.specs.Meaning.{AskMeans}
-use Rattle.ask.proofs.Meaning.{never-refused, ask-means}
+use Rattle.ask.proofs.Meaning.{walk-numbers, ask-means}
 use Rattle.ask.proofs.Loaded.{asked-walks}
 use Rattle.verdict.specs.Sheets.{isJumpName, sheetOf}
 use Rattle.verdict.specs.Verdict.{afterLoad, verdictOf}
-use Rattle.verdict.specs.Meaning.{SheetDemand3, AskedDemand3, VerdictMeans}
+use Rattle.verdict.specs.Meaning.{SheetDemand3, AskedDemand3, VerdictNumbers, walked as walked-numbers, refused, VerdictMeans}
 
 -- a name that begins so has mark 1
 mark-jump : (name : List ℕ) → eqb (jumpMark name) 1 ≡ isJumpName name
@@ -61,7 +64,6 @@ module _ (s : List ℕ) (rowRoom nameRoom : ℕ) (r : Record) (e : loadOf s rowR
         safe = rw sheet-is (m .safe);
         written = rw sheet-is (m .written);
         away = rw sheet-is (m .away);
-        of-input = λ refusal place h. absurd (never-refused (walked r loadedRows loadedNames) refusal place (sym (asked-walks r loadedRows loadedNames (load-asked s rowRoom nameRoom r e)) ∙ sym q ∙ h));
       }
 
 -- a load's refusal is no acceptance
@@ -70,7 +72,6 @@ of-refusal s rowRoom nameRoom refusal line e a q = record {
   safe = λ h. absurd (subst AcceptedAnswer q h);
   written = λ h. absurd (let z : _≡_ {A = ℕ} 0 1 = cc in omega arith);
   away = λ h. absurd (let z : _≡_ {A = ℕ} 0 1 = cc in omega arith);
-  of-input = λ f p h. let same : refusal ≡ f = cc in rw (← same) (load-number s rowRoom nameRoom refusal line e);
 }
 
 -- the promise of the call
@@ -82,6 +83,15 @@ verdict-means s rowRoom nameRoom a q = go (loadOf s rowRoom nameRoom .answer) re
     go (L.Done r) e v = of-sheet s rowRoom nameRoom r e a v
     go (L.Refused refusal line) e v = of-refusal s rowRoom nameRoom refusal line e a v
 
+-- its answer in numbers
+pub verdict-numbers : (s : List ℕ) (rowRoom nameRoom : ℕ) (a : Answer) → a ≡ verdictOf s rowRoom nameRoom → VerdictNumbers (numbersOf a)
+unfolding verdictOf
+verdict-numbers s rowRoom nameRoom a q = rw q (go (loadOf s rowRoom nameRoom .answer) refl)
+  where
+    go : (l : Loaded) → loadOf s rowRoom nameRoom .answer ≡ l → VerdictNumbers (numbersOf (afterLoad l (loadOf s rowRoom nameRoom .rows) (loadOf s rowRoom nameRoom .names)))
+    go (L.Done r) e = rw (asked-walks r _ _ (load-asked s rowRoom nameRoom r e)) (walked-numbers (walk-numbers (walked r (loadOf s rowRoom nameRoom .rows) (loadOf s rowRoom nameRoom .names))))
+    go (L.Refused refusal line) e = refused (refusalNumber refusal) line (number-some refusal) (load-numbers s rowRoom nameRoom (L.Refused refusal line) (sym e))
+
 -- demand 3 over bytes
 pub sheet-demand-3 : SheetDemand3
 sheet-demand-3 s rowRoom nameRoom h = verdict-means s rowRoom nameRoom (verdictOf s rowRoom nameRoom) refl .safe h
@@ -91,5 +101,5 @@ pub asked-demand-3 : AskedDemand3
 asked-demand-3 s rowRoom nameRoom r e h = of-sheet s rowRoom nameRoom r e (askOf r (loadOf s rowRoom nameRoom .rows) (loadOf s rowRoom nameRoom .names)) refl .safe h
 
 -- the clauses of the contract, with what it says of the tables
-pub verdict-told : {B C : Type 0} (s : List ℕ) (rowRoom nameRoom : ℕ) (a : Answer) → a ≡ verdictOf s rowRoom nameRoom → B → C → (a ≡ verdictOf s rowRoom nameRoom) × (B × (C × VerdictMeans s a))
-verdict-told s rowRoom nameRoom a e b c = (e, (b, (c, verdict-means s rowRoom nameRoom a e)))
+pub verdict-told : {B C : Type 0} (s : List ℕ) (rowRoom nameRoom : ℕ) (a : Answer) → a ≡ verdictOf s rowRoom nameRoom → B → C → (a ≡ verdictOf s rowRoom nameRoom) × (B × (C × (VerdictNumbers (numbersOf a) × VerdictMeans s a)))
+verdict-told s rowRoom nameRoom a e b c = (e, (b, (c, (verdict-numbers s rowRoom nameRoom a e, verdict-means s rowRoom nameRoom a e))))

@@ -9,12 +9,11 @@ use Rattle.table.specs.Fold.{fold}
 use Rattle.kinds.specs.Kinds.{bytes, kinds, entry, isKind, inClass, ofClass, classNumber, sideFits, takes, once, many, fits}
 use Rattle.kinds.specs.Words.{same, placeFrom, kindOf}
 use Rattle.kinds.specs.Named.{kindNumber, numbered, exprClass, stmtWords, stmtClassIn, stmtClass, taskEffect}
-use Rattle.checks.specs.Checks.{holds, whenHeld, firstFrom, fieldsAt, endsBefore, above, enclosing, endFits, depthAt, endsAt, kindAlone, childrenAt, rootAt}
+use Rattle.checks.specs.Checks.{checkedRows, holds, whenHeld, firstFrom, fieldsAt, endsBefore, above, enclosing, endFits, depthAt, endsAt, kindAlone, childrenAt, rootAt}
 use Rattle.text.specs.Fields.{isStop, fieldLength, fieldOf, stopAt, stands, endsBy, after, startsWith, below, isGraphic, allGraphic}
 use Rattle.text.specs.Numbers.{isDigit, allDigits, isEmpty, zeroFirst, decimal, bounded, numberOf}
 use Rattle.lines.specs.Lines.{keyed, numberLine, jumpMark, nameOf, nameLine, fiveFields, rowOf, rowFrom, rowFields, rowLine, rowAt}
-use Rattle.sections.specs.Sections.{linesFrom, nameStep, rowStep}
-use Rattle.header.specs.Header.{headOf, lastFacts, factsFrom}
+use Rattle.sheet.specs.Sections.{linesFrom, numberStep, nameStep, rowStep}
 use Rattle.sheet_record.specs.Records.{recordFits, recordHeld, marksFit}
 use Rattle.sheet.specs.Load.{beforeRows, linesOf, refuse, tableOf, hasRoom, checkedAnswer, finishOf, loadOf}
 use Rattle.load.proofs.Sample.{line, listing}
@@ -30,14 +29,14 @@ use Rattle.paths.specs.Written.{ReadsWritten}
 use Rattle.paths.specs.Semantics.{Order, under}
 use Rattle.stmt_paths.specs.Execution.{IsPath}
 use Rattle.stmt_paths.proofs.PremiseTest.{all-hold}
-use Rattle.stmt_paths.specs.Premises.{placeOf, placedBelow, placedAt, placedTogether, placedRows, refersAt, plainAt, rowHolds, nowhere, firstFalse, firstFailing}
+use Rattle.stmt_paths.specs.Premises.{childPlace, placedBelow, placedAt, placedTogether, placedRows, refersAt, plainAt, rowHolds, nowhere, firstFalse, firstFailing}
 use Rattle.loops.specs.Escape.{cannotEscapeAt}
 use Rattle.loops.specs.Time.{waitingWords, isOneOf, letsTimePass, advancesAt}
-use Rattle.da.specs.Walk.{heldAt, walkAt}
+use Rattle.da.specs.Walk.{heldFactsAt, walkAt}
 use Rattle.writing.specs.Spelling.{spelledBy, spelled, fieldText}
 use Rattle.answers.specs.declared.Answer.the-variants.{Falls, GivesUp}
 use Rattle.answers.specs.Answers.{AcceptedAnswer, answerText}
-use Rattle.ask.specs.Ask.{tableChecked, askOf}
+use Rattle.ask.specs.Ask.{askOf}
 use Rattle.verdict.specs.Sheets.{sheetOf}
 use Rattle.verdict.specs.Verdict.{verdictOf}
 use Rattle.verdict.proofs.Demand3.{sheet-demand-3}
@@ -60,7 +59,7 @@ pub record Sampled : Type 0 where
   pub premises : firstFailing (sheetOf jumping .local) (sheetOf jumping .marks) (sheetOf jumping .tree) ≡ nowhere
 
 pub sampled : Sampled
-unfolding verdictOf askOf recordHeld recordFits marksFit tableChecked fieldsAt answerText fieldText spelled spelledBy sheetOf heldAt walkAt factsAt exprEffectAt unaryForm binaryForm callForm cannotEscapeAt waitingWords isOneOf letsTimePass advancesAt stmtClass stmtClassIn stmtWords exprClass taskEffect numbered kindNumber isNamed begins count segments isLocal isMarked isLoopJump inRowOrder passedOver seenBelow seenAt seen some refers stmtNoRef every rest placeOf placedBelow placedAt placedTogether placedRows refersAt plainAt rowHolds firstFalse firstFailing refuse loadOf linesOf beforeRows headOf lastFacts factsFrom numberLine keyed startsWith endsBy stands stopAt fieldLength isStop after fieldOf numberOf isEmpty zeroFirst allDigits isDigit decimal bounded linesFrom nameStep nameLine nameOf jumpMark allGraphic isGraphic below rowStep rowAt rowLine rowFields rowFrom fiveFields rowOf kindOf placeFrom same kinds entry sideFits isKind inClass ofClass classNumber takes once many fits hasRoom checkedAnswer finishOf tableOf holds whenHeld firstFrom endsBefore above enclosing endFits depthAt endsAt kindAlone childrenAt rootAt tree treeBy fold
+unfolding verdictOf askOf checkedRows recordHeld recordFits marksFit fieldsAt answerText fieldText spelled spelledBy sheetOf heldFactsAt walkAt factsAt exprEffectAt unaryForm binaryForm callForm cannotEscapeAt waitingWords isOneOf letsTimePass advancesAt stmtClass stmtClassIn stmtWords exprClass taskEffect numbered kindNumber isNamed begins count segments isLocal isMarked isLoopJump inRowOrder passedOver seenBelow seenAt seen some refers stmtNoRef every rest childPlace placedBelow placedAt placedTogether placedRows refersAt plainAt rowHolds firstFalse firstFailing refuse loadOf linesOf beforeRows numberStep numberLine keyed startsWith endsBy stands stopAt fieldLength isStop after fieldOf numberOf isEmpty zeroFirst allDigits isDigit decimal bounded linesFrom nameStep nameLine nameOf jumpMark allGraphic isGraphic below rowStep rowAt rowLine rowFields rowFrom fiveFields rowOf kindOf placeFrom same kinds entry sideFits isKind inClass ofClass classNumber takes once many fits hasRoom checkedAnswer finishOf tableOf holds whenHeld firstFrom endsBefore above enclosing endFits depthAt endsAt kindAlone childrenAt rootAt tree treeBy fold
 sampled = record { listed = refl; printed = refl; accepted = refl; start = refl; jump = refl; no-jump = refl; premises = refl }
 
 -- so the demand speaks of it, and of all its paths

@@ -7,12 +7,13 @@ use mathlib.Core.List.{List}
 use Prim.Native.Nat.{ℕ, _≤_}
 use Rattle.soundness.specs.Demand3.{SafePaths, FallsWritten, NeverFalls}
 use Rattle.sheet_record.specs.declared.Record.{Record}
-use Rattle.sheet.specs.declared.Refusal.{Refusal}
 use Rattle.sheet.specs.declared.Loaded.the-variants as L
-use Rattle.sheet.specs.Load.{refusalNumber, loadOf}
+use Rattle.sheet.specs.Load.{loadOf}
+use Rattle.sheet.specs.Meaning.{LoadNumbers}
 use Rattle.answers.specs.declared.Answer.{Answer}
-use Rattle.answers.specs.declared.Answer.the-variants.{Falls, Jumps, Refused}
-use Rattle.answers.specs.Answers.{AcceptedAnswer}
+use Rattle.answers.specs.declared.Answer.the-variants.{Falls, Jumps}
+use Rattle.answers.specs.declared.Numbers.{Numbers}
+use Rattle.answers.specs.Answers.{AcceptedAnswer, fiveNumbers, WalkNumbers}
 use Rattle.ask.specs.Ask.{askOf}
 use Rattle.verdict.specs.Sheets.{sheetOf}
 use Rattle.verdict.specs.Verdict.{verdictOf}
@@ -35,6 +36,11 @@ AskedDemand3 =
     → sheetOf s .start ≡ 0
     → SafeSheet s
 
+-- what a verdict tells in numbers: the walk's, or a refusal of loading with its place, never 22 or 23
+pub data VerdictNumbers : Numbers → Type 0 where
+  walked : {n : Numbers} → WalkNumbers n → VerdictNumbers n
+  refused : (number place : ℕ) → 1 ≤ number → LoadNumbers number place → VerdictNumbers (fiveNumbers 3 0 number place 0)
+
 -- what an answer means to whoever has the sheet
 pub record VerdictMeans (s : List ℕ) (answer : Answer) : Type 0 where
   -- demand 3
@@ -43,5 +49,3 @@ pub record VerdictMeans (s : List ℕ) (answer : Answer) : Type 0 where
   pub written : answer ≡ Falls true → sheetOf s .start ≡ 0 → FallsWritten (sheetOf s .local) (sheetOf s .marks) (sheetOf s .tree)
   -- jumps, from either start: no path falls through
   pub away : answer ≡ Jumps → NeverFalls (sheetOf s .local) (sheetOf s .marks) (sheetOf s .tree)
-  -- a refusal is one of load's: never 22 or 23
-  pub of-input : (refusal : Refusal) (place : ℕ) → answer ≡ Refused refusal place → refusalNumber refusal ≤ 21

@@ -23,7 +23,7 @@ isJumpName name = startsWith (bytes "$break$") name || startsWith (bytes "$conti
 -- of lines that are right, of which the names' numbers give each name's place in the bytes; of others there is no tree
 abbrev pub sheetBy : List ℕ → Parsed → Sheet
 sheetBy s (parsed r names rows) = record { local = r .local; start = r .start; marks = λ i. isJumpName (textAt s names i); tree = tree rows 0 (r .rows) }
-sheetBy s (wrong fault line) = record { local = 0; start = 0; marks = λ i. false; tree = nil }
+sheetBy s (wrong refusal line) = record { local = 0; start = 0; marks = λ i. false; tree = nil }
 
 -- of any bytes
 unfoldable pub sheetOf : List ℕ → Sheet

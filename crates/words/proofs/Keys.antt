@@ -1,4 +1,5 @@
--- Keys: a key stands for one word, and is worked out letter by letter.
+-- Keys: a key stands for one word, and is worked out letter by letter. A letter is a digit in base 32, so equal keys have equal letters, by induction
+-- on the word; in the loop the bytes left fall.
 use Prim.Native.Nat.{ℕ, zero, suc, _+_, _-_, _*_, _≤_, _<_}
 use mathlib.Core.Path.{_≡_, refl, sym, ap, _∙_}
 use mathlib.Core.Bool.{Bool, true, false, cond}
@@ -13,7 +14,7 @@ use lib.Dec.{leb}
 use borrow.Author.Tests.{leb-true, leb-false, le-leb, lt-leb}
 use mir.Val.{Fits}
 use mir.Syntax.{w64}
-use Rattle.words.specs.Keys.{key, letters, isLetter, lettersUpTo, lettersOf, twelveFrom, KeyTold}
+use Rattle.words.specs.Steps.{key, letters, isLetter, lettersUpTo, lettersOf, twelveFrom, KeyTold}
 use Rattle.kinds.proofs.Below.{both-true}
 
 record Letter (b : ℕ) : Type 0 where

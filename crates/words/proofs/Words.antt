@@ -1,4 +1,5 @@
--- The word lookup: a kind's key is no other word's, so the key of some small letters finds their kind, if they have one.
+-- The word lookup: a kind's key is no other word's, so the key of some small letters finds their kind, if they have one. That the 66 words differ, and
+-- that each has its key, is computed once; the rest is by induction on the list of kinds.
 use Prim.Native.Nat.{ℕ, zero, suc, _+_, _≤_, _<_}
 use mathlib.Core.Path.{_≡_, refl, sym, ap, _∙_}
 use mathlib.Core.Bool.{Bool, true, false, _&&_}
@@ -13,7 +14,7 @@ use Rattle.kinds.specs.declared.Found.{Found}
 use Rattle.kinds.specs.declared.Found.the-variants.{Is, Unknown}
 use Rattle.kinds.specs.Kinds.{Entry, kinds, noEntry, entry}
 use Rattle.kinds.specs.Words.{same, placeFrom, kindOf}
-use Rattle.words.specs.Keys.{key, letters, isLetter, lettersUpTo, lettersOf, KeyTold, KindTold}
+use Rattle.words.specs.Steps.{key, letters, isLetter, lettersUpTo, lettersOf, KeyTold, KindTold}
 use Rattle.kinds.proofs.Below.{true-not-false, both-true, everyBelow, below}
 use Rattle.words.proofs.Keys.{one-word, letters-read, whole-word}
 use Rattle.kinds.proofs.Numbers.{kinds-count}

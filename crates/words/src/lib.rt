@@ -5,7 +5,7 @@ ghost use mathlib.Core.Bool.{true};
 ghost use mathlib.Core.List.{List};
 ghost use Prim.Native.Nat.{ℕ};
 ghost use Rattle.kinds.specs.Words.{kindOf};
-ghost use Rattle.words.specs.Keys.{letters, key, twelveFrom, KeyTold, KindTold};
+ghost use Rattle.words.specs.Steps.{letters, key, twelveFrom, KeyTold, KindTold};
 
 // The kind whose word the small letters from a place on are, and the place after them; at most twelve are read, more than
 // any word has.
@@ -20,7 +20,7 @@ struct KeyRead {
     stop: usize,
 }
 
-fn wide(b: u8) -> u64
+fn u64_of_byte(b: u8) -> u64
     ensures { λ r. ⌜ r ≡ b ⌝ }
 {
     b as u64
@@ -48,7 +48,7 @@ fn key_at(s: &[u8], at: usize) -> KeyRead
     let mut value: u64 = 0;
     let mut scale: u64 = 1;
     while i < end {
-        let b = wide(s[i]);
+        let b = u64_of_byte(s[i]);
         if b < 97 {
             return KeyRead {
                 value: value,

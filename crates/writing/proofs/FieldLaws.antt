@@ -1,4 +1,4 @@
--- Whether a key, a number and the byte that ends them fit, one after the other.
+-- Whether a key, a number and the byte that ends them fit, one after the other: sums of their lengths, of which that of a number is at most 20.
 use Prim.Native.Nat.{ℕ, _+_, _≤_}
 use mathlib.Core.Path.{_≡_}
 use mathlib.Core.List.{List, [], _∷_}

@@ -1,4 +1,5 @@
--- Texts put into a slice, byte by byte and one after the other.
+-- Numbers or bytes put into a slice, one by one and one text after the other: what is put so far, with what is left, is what the whole puts. The
+-- places left fall.
 use Prim.Native.Nat.{ℕ, suc, _+_, _≤_, _<_}
 use mathlib.Core.Path.{_≡_, refl, sym, ap, _∙_}
 use mathlib.Core.List.{List, [], _∷_, _++_}
@@ -6,27 +7,21 @@ use native.Mathlib.Nat.{add-zero}
 use native.Mathlib.Numerals.{add-one}
 use native.Mathlib.Omega.{arith}
 use lib.ListN.{length, getD, set, take, drop, length-set, length-append, drop-of-length-le}
-use lib.Seq.{drop-cons, sets, sets-eq, take-append-seam}
+use lib.Seq.{drop-cons, length-sets, sets-eq, length-take-le, take-at, take-append-seam}
 use Rattle.writing.specs.Putting.{put, PutAt}
 
-put-length : (out : List ℕ) (at : ℕ) (text : List ℕ) → length (put out at text) ≡ length out
-unfolding put
-put-length out at [] = refl
-put-length out at (b ∷ t) = put-length (set out at b) (at + 1) t ∙ length-set out at b
-
 put-put : (out : List ℕ) (at : ℕ) (a b : List ℕ) → put (put out at a) (at + length a) b ≡ put out at (a ++ b)
-unfolding put
 put-put out at [] b = rw add-zero
-put-put out at (x ∷ a) b = let e : at + suc (length a) ≡ at + 1 + length a = omega arith in rw e (put-put (set out at x) (at + 1) a b)
+put-put out at (x ∷ a) b = let e : at + suc (length a) ≡ suc at + length a = omega arith in rw e (put-put (set out at x) (suc at) a b)
 
-put-sets : (out : List ℕ) (at : ℕ) (text : List ℕ) → put out at text ≡ sets out at text
-unfolding put
-put-sets out at [] = refl
-put-sets out at (b ∷ t) = rw add-one (put-sets (set out at b) (suc at) t)
+-- what is put where it has room stands after what stood before it
+pub front-put : (out : List ℕ) (at : ℕ) (others : List ℕ) → at + length others ≤ length out → take (at + length others) (put out at others) ≡ take at out ++ others
+front-put out at others h =
+    let l : length (take at out ++ others) ≡ at + length others = length-append (take at out) others ∙ omega (arith, length-take-le at out (omega arith)) in
+    rw (sets-eq others out at h) (take-at (take at out ++ others) (drop (at + length others) out) (at + length others) l)
 
 -- for a caller that puts texts one after the other: none yet, and one more where the last ended
 pub put-none : (out : List ℕ) (at : ℕ) → PutAt out at [] out at
-unfolding put
 put-none out at = record { place = sym (add-zero at); bytes = refl }
 
 pub put-then : (out o p : List ℕ) (at r s : ℕ) (a b : List ℕ) → PutAt out at a o r → PutAt o r b p s → PutAt out at (a ++ b) p s
@@ -37,18 +32,17 @@ put-then out o p at r s a b w v = record {
 
 module _ (out o : List ℕ) (at r : ℕ) (text : List ℕ) (w : PutAt out at text o r) where
   pub put-kept : length o ≡ length out
-  put-kept = ap length (w .bytes) ∙ put-length out at text
+  put-kept = ap length (w .bytes) ∙ length-sets out at text
 
   -- what stands before a text that fits, and after it, stays
   pub put-whole : r ≤ length out → o ≡ take at out ++ text ++ drop r out
-  put-whole h = let l : at + length text ≤ length out = omega (arith, w .place) in w .bytes ∙ put-sets out at text ∙ sets-eq text out at l ∙ rw (w .place)
+  put-whole h = let l : at + length text ≤ length out = omega (arith, w .place) in w .bytes ∙ sets-eq text out at l ∙ rw (w .place)
 
 -- what is put from 0 on is the front
 pub put-front : (out o : List ℕ) (r : ℕ) (text : List ℕ) → PutAt out 0 text o r → r ≤ length out → take r o ≡ text
 put-front out o r text w h = let e : r ≡ length text = omega (arith, w .place) in rw (put-whole out o 0 r text w h, e) (take-append-seam text _)
 
 pub put-one : (out : List ℕ) (at byte : ℕ) → PutAt out at (byte ∷ []) (set out at byte) (at + 1)
-unfolding put
 put-one out at byte = record { place = refl; bytes = refl }
 
 -- what the putting of a text knows at byte i of the text
@@ -62,9 +56,8 @@ put-start out at text = record { size = refl; few = omega arith; same = rw add-z
 
 module _ {out₀ : List ℕ} {at : ℕ} {text out : List ℕ} {i : ℕ} (w : Putting out₀ at text out i) where
   pub put-on : i < length text → Putting out₀ at text (set out (at + i) (getD text i 0)) (i + 1)
-  unfolding put
   put-on h =
-      let e : at + (i + 1) ≡ at + i + 1 = omega arith in
+      let e : at + (i + 1) ≡ suc (at + i) = omega arith in
       record {
         size = length-set out (at + i) (getD text i 0) ∙ w .size;
         few = omega arith;
@@ -72,7 +65,6 @@ module _ {out₀ : List ℕ} {at : ℕ} {text out : List ℕ} {i : ℕ} (w : Put
       }
 
   pub put-end : length text ≤ i → PutAt out₀ at text out (at + i)
-  unfolding put
   put-end h = record { place = omega (arith, w .few); bytes = sym (w .same ∙ rw (drop-of-length-le text h)) }
 
 pub ruleset answers = (put-one, put-start, put-on, put-end)

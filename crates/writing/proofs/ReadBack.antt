@@ -1,4 +1,5 @@
--- The text of a number, read as document 01 reads numbers, spells that number.
+-- The text of a number, read as document 01 reads numbers, spells that number: each property of the text is kept by one more digit at its end. The
+-- induction is on the digits.
 use Prim.Native.Nat.{ℕ, zero, suc, _+_, _-_, _*_, _/_, _%_, _^_, _≤_, _<_}
 use mathlib.Core.Path.{_≡_, refl, _∙_}
 use mathlib.Core.Bool.{Bool, true, false, _&&_}

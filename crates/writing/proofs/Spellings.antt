@@ -1,4 +1,5 @@
--- The text of a number, digit by digit from its last.
+-- The text of a number, digit by digit from its last: the code writes backwards into 20 bytes what the definition appends. What is left of the number
+-- falls to a tenth.
 use Prim.Native.Nat.{ℕ, zero, suc, _+_, _-_, _/_, _^_, _≤_, _<_}
 use mathlib.Core.Path.{_≡_, sym, _∙_}
 use mathlib.Core.Bool.{Bool, true, false, cond}

@@ -16,7 +16,6 @@ numbers-of-spec =
     (λ c. search needs)
     (λ c. search needs)
     (λ c κs. search needs)
-    (λ c. search needs)
     (λ c. search answers)
     (λ c. search answers)
     (λ c. search answers)

@@ -1,3 +1,4 @@
+-- What the loop keeps: the number of the text is that of the digits left, after those read. What falls: the bytes that are left.
 use borrow.Author.Needs.{needs}
 use Prim.Native.Nat.{_-_}
 use lib.ListN.{length}

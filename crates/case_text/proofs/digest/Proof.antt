@@ -1,3 +1,4 @@
+-- What the loop keeps: the digest of all is that of the numbers left, after those counted. What falls: the numbers that are left.
 use borrow.Author.Needs.{needs}
 use Prim.Native.Nat.{_-_}
 use lib.ListN.{length}

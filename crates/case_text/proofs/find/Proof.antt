@@ -1,3 +1,4 @@
+-- What the loop keeps: the first such byte is that of the bytes from i on. What falls: the bytes that are left.
 use borrow.Author.Needs.{needs}
 use Prim.Native.Nat.{_-_}
 use lib.ListN.{length}

@@ -1,3 +1,4 @@
+-- What the loop keeps: putting the whole text is putting what is left of it from here on. What falls: the bytes that are left.
 use borrow.Author.Needs.{needs}
 use Prim.Native.Nat.{_-_}
 use lib.ListN.{length}

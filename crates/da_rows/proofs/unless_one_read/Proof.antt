@@ -1,9 +1,10 @@
+-- What the loop keeps: what is asked of all siblings comes to what is asked of those from `child` on. What falls: the rows that are left.
 use Prim.Native.Nat.{_-_}
 use Rattle.table.proofs.Loops.{Goes}
 use Rattle.da.specs.declared.DaOut.the-variants.{Falls}
 use Rattle.da.specs.declared.DaResult.the-variants.{Ok}
 use Rattle.da.specs.Walk.{unlessOneRead}
-use Rattle.da_rows.specs.Tables.{factsIn}
+use Rattle.da_rows.specs.Steps.{factsIn}
 use Rattle.da_rows.proofs.Asking.{unread}
 use Rattle.da_rows.proofs.unless_one_read.Statement.{statement}
 use Rattle.da_rows.proofs.unless_one_read.Tie as tie

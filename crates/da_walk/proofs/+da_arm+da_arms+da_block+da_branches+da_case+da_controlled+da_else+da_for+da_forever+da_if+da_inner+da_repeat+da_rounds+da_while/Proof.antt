@@ -1,6 +1,10 @@
+-- One cycle: each function answers what its construct comes to at these rows, where the functions that it calls do. What falls is five
+-- times the size of the range, and on top of that, since some hand on the same range, 7 for an if or a case, 6 for their arms, 5 for an
+-- arm, an else or a block, 4 for da_inner, 3 for the function of a row, 1 for rounds. The two loops keep that the whole comes to what is
+-- left.
 use Prim.Native.Nat.{ℕ, _<_, _+_, _-_, _*_}
-use Rattle.da_rows.specs.Tables.{untimed}
-use Rattle.da_walk.specs.Constructs.{walksIn, blockIn, armsFrom, armsIn}
+use Rattle.da_rows.specs.Steps.{untimed}
+use Rattle.da_walk.specs.Steps.{walksIn, blockIn, armsFrom, armsIn}
 use borrow.Author.Needs.{needs}
 use Rattle.table.proofs.Loops.{Goes}
 use Rattle.da_walk.proofs.Dispatch.{dispatch}

@@ -1,3 +1,4 @@
+-- The loop stays within the text and leaves the table as long as it was. What falls: the bytes that are left.
 use borrow.Author.Needs.{needs}
 use Prim.Native.Nat.{_-_, _≤_}
 use mathlib.Core.Path.{_≡_}

@@ -1,3 +1,4 @@
+-- The loop leaves the table as long as it was. What falls: the turns that are left.
 use borrow.Author.Needs.{needs}
 use Prim.Native.Nat.{_-_}
 use mathlib.Core.Path.{_≡_}

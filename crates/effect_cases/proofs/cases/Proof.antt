@@ -1,3 +1,4 @@
+-- The loop stays within the text. What falls: the bytes that are left.
 use borrow.Author.Needs.{needs}
 use Prim.Native.Nat.{_-_, _≤_}
 use lib.ListN.{length}

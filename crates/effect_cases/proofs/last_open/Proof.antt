@@ -1,3 +1,4 @@
+-- The loop goes down from the last row. What falls: the number of the row.
 use borrow.Author.Needs.{needs}
 use Prim.Native.Nat.{_≤_}
 use Rattle.effect_cases.proofs.last_open.Statement.{statement}

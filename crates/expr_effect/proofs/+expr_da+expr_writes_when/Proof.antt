@@ -1,3 +1,5 @@
+-- The two ask each other: expr_da asks expr_writes_when of the operands, which asks expr_da of the same range. What falls is twice the
+-- size of the range, and one more for expr_writes_when.
 use Prim.Native.Nat.{ℕ, _<_, _+_, _-_, _*_}
 use borrow.Author.Needs.{needs}
 use native.Mathlib.Omega.{arith}

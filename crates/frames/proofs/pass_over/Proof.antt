@@ -1,3 +1,4 @@
+-- The loop keeps nothing. What falls: the bytes that are left to pass over.
 use borrow.Author.Needs.{needs}
 use Rattle.frames.proofs.pass_over.Statement.{statement}
 use Rattle.frames.proofs.pass_over.Tie as tie

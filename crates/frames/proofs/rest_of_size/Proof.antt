@@ -1,3 +1,4 @@
+-- The loop keeps nothing. What falls: how many digits may still come.
 use borrow.Author.Needs.{needs}
 use Rattle.frames.proofs.rest_of_size.Statement.{statement}
 use Rattle.frames.proofs.rest_of_size.Tie as tie

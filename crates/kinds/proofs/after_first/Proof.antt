@@ -1,5 +1,5 @@
 use borrow.Author.Needs.{needs}
-use Rattle.kinds.specs.Numbers.{afterFirst}
+use Rattle.kinds.specs.Steps.{afterFirst}
 use Rattle.kinds.proofs.Numbers.{after-told}
 use Rattle.kinds.proofs.after_first.Statement.{statement}
 use Rattle.kinds.proofs.after_first.Tie as tie

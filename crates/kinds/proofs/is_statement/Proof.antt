@@ -1,7 +1,7 @@
 use mathlib.Core.Path.{sym, _∙_}
 use borrow.Author.Tests.{lt-leb, le-leb}
 use Rattle.kinds.specs.Kinds.{S, kinds, ofClass, classNumber}
-use Rattle.kinds.specs.Numbers.{firstOf, pastOf, before, amount}
+use Rattle.kinds.specs.Steps.{firstOf, pastOf, before, amount}
 use Rattle.kinds.proofs.Numbers.{in-range}
 use Rattle.kinds.proofs.is_statement.Statement.{statement}
 use Rattle.kinds.proofs.is_statement.Tie as tie

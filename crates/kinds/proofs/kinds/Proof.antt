@@ -1,6 +1,6 @@
 use mathlib.Core.Path.{refl}
 use Rattle.kinds.specs.Kinds.{kinds, ofClass, classNumber}
-use Rattle.kinds.specs.Numbers.{numbers, sidesNumber, itemsNumber, itemNumber, firstOf, pastOf, before, amount}
+use Rattle.kinds.specs.Steps.{numbers, sidesNumber, itemsNumber, itemNumber, firstOf, pastOf, before, amount}
 use Rattle.kinds.proofs.kinds.Statement.{statement}
 use Rattle.kinds.proofs.kinds.Tie as tie
 

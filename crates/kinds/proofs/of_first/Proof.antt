@@ -1,5 +1,5 @@
 use borrow.Author.Tests.{lt-leb, le-leb}
-use Rattle.kinds.specs.Numbers.{ofFirst}
+use Rattle.kinds.specs.Steps.{ofFirst}
 use Rattle.kinds.proofs.of_first.Statement.{statement}
 use Rattle.kinds.proofs.of_first.Tie as tie
 

@@ -1,5 +1,5 @@
 use mathlib.Core.Path.{refl}
-use Rattle.kinds.specs.Numbers.{repeatsFirst}
+use Rattle.kinds.specs.Steps.{repeatsFirst}
 use Rattle.kinds.proofs.Numbers.{repeats-told}
 use Rattle.kinds.proofs.repeats_first.Statement.{statement}
 use Rattle.kinds.proofs.repeats_first.Tie as tie

@@ -1,5 +1,5 @@
 use mathlib.Core.Path.{refl}
-use Rattle.kinds.specs.Numbers.{restFirst}
+use Rattle.kinds.specs.Steps.{restFirst}
 use Rattle.kinds.proofs.Numbers.{rest-told}
 use Rattle.kinds.proofs.rest_first.Statement.{statement}
 use Rattle.kinds.proofs.rest_first.Tie as tie

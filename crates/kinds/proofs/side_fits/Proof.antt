@@ -1,5 +1,5 @@
 use borrow.Author.Tests.{eq-eqb, ne-eqb}
-use Rattle.kinds.specs.Numbers.{sideBelow}
+use Rattle.kinds.specs.Steps.{sideBelow}
 use Rattle.kinds.proofs.Numbers.{side-told}
 use Rattle.kinds.proofs.side_fits.Statement.{statement}
 use Rattle.kinds.proofs.side_fits.Tie as tie

@@ -1,6 +1,5 @@
 use borrow.Author.Needs.{needs}
-use Rattle.load.proofs.Finishing.{answers}
-use Rattle.checks.proofs.Places.{children-row}
+use Rattle.load.proofs.Finishing.{check-row, answers}
 use Rattle.load.proofs.checked_answer.Statement.{statement}
 use Rattle.load.proofs.checked_answer.Tie as tie
 
@@ -9,10 +8,8 @@ checked-answer-spec =
     tie.close
     (tie.spec
     (λ c κs. search needs)
-    (λ c. search answers)
-    (λ c κs. search needs)
-    (λ c. search answers)
     (λ c. search needs)
-    (λ c κs. search (children-row, needs))
+    (λ c. search needs)
+    (λ c κs. search (check-row, needs))
     (λ c. search answers)
     (λ c. search answers))

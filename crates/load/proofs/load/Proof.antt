@@ -1,5 +1,6 @@
 use borrow.Author.Needs.{needs}
 use Rattle.load.proofs.GoodLoad.{load-means}
+use Rattle.load.proofs.Refusals.{load-numbers}
 use Rattle.load.proofs.load.Statement.{statement}
 use Rattle.load.proofs.load.Tie as tie
 
@@ -10,4 +11,4 @@ load-spec =
     (λ c κs. search needs)
     (λ c. search needs)
     (λ c. search needs)
-    (λ c. (search needs, (search needs, (search needs, search load-means)))))
+    (λ c. (search needs, (search needs, (search needs, (search load-numbers, search load-means))))))

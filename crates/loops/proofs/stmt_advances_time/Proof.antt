@@ -1,3 +1,4 @@
+-- What the loop keeps: the answer is that of the rows from i on. What falls: the rows that are left.
 use borrow.Author.Needs.{needs}
 use Prim.Native.Nat.{_-_}
 use mathlib.Core.Path.{_≡_, refl}

@@ -1,3 +1,5 @@
+-- The loop goes from row to row, and what it keeps is that the first mention is that of the rows from i on; the expression of an event
+-- whose iff is left out is asked for by a call. What falls: in the loop the rows that are left, in the call the size of the range.
 use borrow.Author.Needs.{needs}
 use mathlib.Core.Path.{_≡_}
 use native.Mathlib.Omega.{arith}

@@ -1,6 +1,7 @@
+-- What the loop keeps: the rows passed over so far are quiet. What falls: the rows that are left.
 use borrow.Author.Needs.{needs}
 use Prim.Native.Nat.{_-_}
-use Rattle.reads.specs.Mentions.{AfterQuiet}
+use Rattle.reads.specs.Steps.{AfterQuiet}
 use Rattle.reads.proofs.Quiet.{quiet-loop}
 use Rattle.reads.proofs.after_quiet.Statement.{statement}
 use Rattle.reads.proofs.after_quiet.Tie as tie

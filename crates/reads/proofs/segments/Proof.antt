@@ -1,3 +1,5 @@
+-- What the loop keeps: the segments counted so far and those of the rows that are left are the path's. What falls: the rows that are
+-- left.
 use borrow.Author.Needs.{needs}
 use Prim.Native.Nat.{_+_, _-_, _≤_}
 use mathlib.Core.Path.{_≡_}

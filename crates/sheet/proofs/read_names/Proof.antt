@@ -1,6 +1,5 @@
 use borrow.Author.Needs.{needs}
-use Rattle.header.proofs.FactLaws.{head-least, head-most}
-use Rattle.sheet.proofs.Reading.{answers}
+use Rattle.sheet.proofs.Reading.{count-most, answers}
 use Rattle.sheet.proofs.read_names.Statement.{statement}
 use Rattle.sheet.proofs.read_names.Tie as tie
 
@@ -11,10 +10,10 @@ read-names-spec =
     (λ c κs. search needs)
     (λ c. search needs)
     (λ c. search needs)
-    (λ c κs. search (head-most, needs))
+    (λ c κs. search (count-most, needs))
     (λ c. search needs)
     (λ c. search needs)
-    (λ c κs. search (head-least, head-most, needs))
+    (λ c κs. search (count-most, needs))
     (λ c. search answers)
     (λ c. search needs)
     (λ c. search answers)

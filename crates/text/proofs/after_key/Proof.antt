@@ -1,3 +1,5 @@
+-- What the loop keeps: the key stands there exactly where what is left of it stands i bytes on. What falls: the bytes of the key that are
+-- left.
 use Prim.Native.Nat.{_-_}
 use borrow.Author.Needs.{needs}
 use lib.ListN.{length}

@@ -1,3 +1,4 @@
+-- What the loop keeps: the order of the two texts is that of what is left of both. What falls: the bytes of the first that are left.
 use Prim.Native.Nat.{_-_}
 use borrow.Author.Needs.{needs}
 use lib.ListN.{length}

@@ -1,3 +1,4 @@
+-- What the loop keeps: number and end are those of the digits left, after those read. What falls: the bytes that are left.
 use Prim.Native.Nat.{_-_}
 use borrow.Author.Needs.{needs}
 use lib.ListN.{length}

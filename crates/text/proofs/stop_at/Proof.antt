@@ -1,3 +1,4 @@
+-- What the loop keeps: the field stops where that of the bytes from i on does. What falls: the bytes that are left.
 use Prim.Native.Nat.{_-_}
 use borrow.Author.Needs.{needs}
 use lib.ListN.{length}

@@ -11,7 +11,7 @@ verdict-spec =
     (λ c κs. search needs)
     (λ c. search needs)
     (λ c. search needs)
-    (λ c κs. search needs)
+    (λ c κs. search calls)
     (λ c. search needs)
     (λ c. search needs)
     (λ c. verdict-told _ _ _ _ (search calls) (search needs) (search needs))

@@ -1,3 +1,5 @@
+-- What the loop keeps: the key is that of the letters read, and that of the letters left times the scale. What falls: the bytes that are
+-- left, of twelve.
 use Prim.Native.Nat.{_-_}
 use borrow.Author.Needs.{needs}
 use Rattle.words.proofs.Keys.{Spelling, answers}

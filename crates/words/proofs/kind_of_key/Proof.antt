@@ -1,6 +1,8 @@
+-- An arm's key is computed to be that of its kind's word, and keys tell words of small letters apart (Keys); in the last arm the key is
+-- that of no kind's word. Nothing recurses.
 use mathlib.Core.Path.{refl}
 use Rattle.kinds.specs.Kinds.{kinds, entry}
-use Rattle.words.specs.Keys.{key}
+use Rattle.words.specs.Steps.{key}
 use Rattle.words.proofs.Words.{arm, no-arm, Differs}
 use Rattle.words.proofs.kind_of_key.Statement.{statement}
 use Rattle.words.proofs.kind_of_key.Tie as tie
