@@ -1,5 +1,5 @@
 -- What the caller of asking gets: document 01, "What the caller gets" and the end of "Worked statements". Definitions only.
-use Prim.Native.Nat.{ℕ, _-_}
+use Prim.Native.Nat.{ℕ, _-_, _≤_}
 use mathlib.Core.Bool.{Bool, true, false}
 use mathlib.Core.List.{List, [], _∷_, _++_}
 use lib.ListN.{length, getD, replicate}
@@ -45,11 +45,11 @@ numbersOf Jumps = fiveNumbers 1 0 0 0 0
 numbersOf (GivesUp stop) = fiveNumbers 2 0 (stop .reason) (stop .lo) (stop .hi)
 numbersOf (Refused refusal place) = fiveNumbers 3 0 (refusalNumber refusal) place 0
 
--- the numbers of a walk's answer: "falls with written 0 or 1; jumps; give-up with reason, lo, hi"
+-- the numbers of a walk's answer: "falls with written 0 or 1; jumps; give-up with reason, lo, hi"; the reasons are 1 to 9
 pub data WalkNumbers : Numbers → Type 0 where
   falls : (written : Bool) → WalkNumbers (fiveNumbers 0 (bitOf written) 0 0 0)
   jumps : WalkNumbers (fiveNumbers 1 0 0 0 0)
-  gives-up : (reason lo hi : ℕ) → WalkNumbers (fiveNumbers 2 0 reason lo hi)
+  gives-up : (reason lo hi : ℕ) → 1 ≤ reason → reason ≤ 9 → WalkNumbers (fiveNumbers 2 0 reason lo hi)
 
 -- the word of an answer
 abbrev pub wordOf : Answer → List ℕ

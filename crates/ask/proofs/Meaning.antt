@@ -20,12 +20,14 @@ use Rattle.da.specs.declared.DaOut.the-variants as O
 use Rattle.da.specs.declared.DaResult.{DaResult}
 use Rattle.da.specs.declared.DaResult.the-variants.{Ok, Err}
 use Rattle.da.specs.Outcome.{State, Accepted}
+use Rattle.da.specs.Walk.{daCtx}
+use Rattle.da.proofs.Reasons.{Reasoned, goes-on, stops, nine-reasons}
 use Rattle.soundness.proofs.Demand3.{walk-means}
 use Rattle.answers.specs.declared.Answer.{Answer}
 use Rattle.answers.specs.declared.Answer.the-variants.{Falls, Jumps, Refused}
 use Rattle.answers.specs.Answers.{AcceptedAnswer, numbersOf, WalkNumbers, falls, jumps, gives-up}
 use Rattle.ask.specs.Ask.{tableChecked, rowTree, startOf, walked, walkAnswer, afterTable, tableAnswer, askOf}
-use Rattle.ask.specs.Meaning.{AskNumbers, walked as walked-numbers, wrong-record, wrong-table, AskMeans}
+use Rattle.ask.specs.Meaning.{AskNumbers, by-walk, wrong-record, wrong-table, AskMeans}
 
 -- asking refuses, or answers as the walk does
 pub data AskedTo (r : Record) (rows names : List ℕ) : Answer → Type 0 where
@@ -77,10 +79,13 @@ walk-jumps (Ok O.Jumps) h = refl
 walk-jumps (Err stop) h = cc
 
 -- the walk's answers in numbers
-pub walk-numbers : (d : DaResult) → WalkNumbers (numbersOf (walkAnswer d))
-walk-numbers (Ok (O.Falls a)) = falls a
-walk-numbers (Ok O.Jumps) = jumps
-walk-numbers (Err stop) = gives-up (stop .reason) (stop .lo) (stop .hi)
+reasoned-numbers : {d : DaResult} → Reasoned d → WalkNumbers (numbersOf (walkAnswer d))
+reasoned-numbers (goes-on (O.Falls a)) = falls a
+reasoned-numbers (goes-on O.Jumps) = jumps
+reasoned-numbers (stops reason lo hi l m) = gives-up reason lo hi l m
+
+pub walk-numbers : (r : Record) (rows names : List ℕ) → WalkNumbers (numbersOf (walkAnswer (walked r rows names)))
+walk-numbers r rows names = reasoned-numbers (nine-reasons (daCtx (r .local) (marksOf names) (eqb (r .sole) 1)) (rowTree r rows) (startOf r))
 
 module _ (r : Record) (rows names : List ℕ) where
   accepted-walk : {a : Answer} → AskedTo r rows names a → AcceptedAnswer a → Accepted (walked r rows names)
@@ -101,7 +106,7 @@ module _ (r : Record) (rows names : List ℕ) where
   told-numbers : {a : Answer} → AskedTo r rows names a → AskNumbers r (numbersOf a)
   told-numbers no-record = wrong-record
   told-numbers (no-table row b) = wrong-table row b
-  told-numbers walks = walked-numbers (walk-numbers (walked r rows names))
+  told-numbers walks = by-walk (walk-numbers r rows names)
 
   -- "start 0" is the unwritten start
   unwritten-start : r .start ≡ 0 → startOf r ≡ false

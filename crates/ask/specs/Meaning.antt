@@ -15,7 +15,7 @@ use Rattle.ask.specs.Ask.{rowTree}
 
 -- what asking tells in numbers: the walk's, or "22 (ask, name)", told no place, or "23 (ask; place is the row)", place 0 for a mark
 pub data AskNumbers (r : Record) : Numbers → Type 0 where
-  walked : {n : Numbers} → WalkNumbers n → AskNumbers r n
+  by-walk : {n : Numbers} → WalkNumbers n → AskNumbers r n
   wrong-record : AskNumbers r (fiveNumbers 3 0 22 0 0)
   wrong-table : (row : ℕ) → row < r .rows → AskNumbers r (fiveNumbers 3 0 23 row 0)
 

@@ -1,5 +1,5 @@
-// Asking: a record and two tables that somebody lends are checked, and the walk answers. Nothing is asked of the caller, and nothing is
-// written.
+// Asking: a record and two tables that somebody lends are checked, and the walk answers. `ask` asks nothing of its caller; `walk` is for
+// whoever knows that the tables pass. Nothing is written.
 use answers::Answer;
 use checks::Checked;
 use da::DaOut;

@@ -89,9 +89,6 @@ module _ (rows : List ℕ) (count names : ℕ) where
     unfolding checkedRows
     both-passed = both-pass (fieldsOf rows count names) (childrenOf rows count) (sym q ∙ p)
 
-    pub checked-fields : RightFields rows count names
-    checked-fields = fields-passed rows count names (fieldsOf rows count names) refl (both-passed .0)
-
     pub checked-children : RightChildren rows count
     checked-children = children-passed rows count (childrenOf rows count) refl (both-passed .1)
 

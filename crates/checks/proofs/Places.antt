@@ -1,4 +1,5 @@
--- Where a check refuses: at a row of the table.
+-- Where a check refuses: at a row of the table, and with which numbers. Each test tells its own row, so the first refusal of rows tells one of them;
+-- the rows left fall.
 use Prim.Native.Nat.{ℕ, zero, suc, _+_, _≤_, _<_}
 use mathlib.Core.Path.{_≡_, refl, sym, subst, _∙_}
 use mathlib.Core.Bool.{Bool, true, false, cond, _&&_}
@@ -108,10 +109,6 @@ pub checked-row : (rows : List ℕ) (count names : ℕ) (r : Checked) (refusal :
 checked-row rows count names r refusal row q e =
     omega (arith, checked-within rows count 2000 22 (omega arith) (λ t. held-facts rows count t .few) (omega arith) (λ t. omega arith) names .row refusal row (sym q ∙ e) .1)
 
-pub children-row : (rows : List ℕ) (count : ℕ) (r : Checked) (refusal : Refusal) (row : ℕ) → r ≡ childrenOf rows count → r ≡ Refused refusal row → row ≤ 2000
-children-row rows count r refusal row q e =
-    omega (arith, children-within rows count 2000 22 (omega arith) (λ t. held-facts rows count t .few) (omega arith) (λ t. omega arith) .row refusal row (sym q ∙ e) .1)
-
 -- of a table that holds its rows, a refusal is 5 to 9, at one of its rows
 module _ (rows : List ℕ) (count : ℕ) (h : Held rows count) where
   not-unheld : holds rows count ≡ false → 22 ≤ 9
@@ -119,9 +116,6 @@ module _ (rows : List ℕ) (count : ℕ) (h : Held rows count) where
 
   pub children-place : Within 0 count 9 (childrenOf rows count)
   children-place = children-within rows count count 9 (h .some) (λ t. omega arith) (omega arith) not-unheld
-
-  pub fields-place : (names : ℕ) → Within 0 count 9 (fieldsOf rows count names)
-  fields-place = fields-within rows count count 9 (h .some) (λ t. omega arith) (omega arith) not-unheld
 
   pub checked-place : (names : ℕ) → Within 0 count 9 (checkedRows rows count names)
   checked-place = checked-within rows count count 9 (h .some) (λ t. omega arith) (omega arith) not-unheld

@@ -1,4 +1,5 @@
--- Two tables that hold the same rows are checked alike, whatever stands after the rows.
+-- Two tables that hold the same rows are checked alike, whatever stands after the rows: each test reads rows up to the last one alone. By induction on
+-- the rows left.
 use Prim.Native.Nat.{ℕ, zero, suc, _+_, _*_, _≤_, _<_}
 use mathlib.Core.Path.{_≡_, refl, ap, _∙_}
 use mathlib.Core.List.{List}

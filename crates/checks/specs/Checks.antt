@@ -26,7 +26,7 @@ unfoldable pub firstFrom : (ℕ → Checked) → ℕ → ℕ → Checked
 firstFrom test zero i = Passed
 firstFrom test (suc n) i = andThen (test i) (firstFrom test n (i + 1))
 
--- what is found in a table that holds its rows; no other is read, and is 22, "tables too short for it"
+-- what is found in a table that holds its rows; no other is read, and is 22: "counts outside the ranges of 3, .. or tables too short for it"
 unfoldable pub whenHeld : List ℕ → ℕ → Checked → Checked
 whenHeld rows count found = cond (holds rows count) found (Refused WrongRecord 0)
 

@@ -103,12 +103,12 @@ pub record RowTold (rows : List ℕ) (names row : ℕ) (numbers : Kind) (least m
   pub read : RowRead rows row numbers
   pub answer : r ≡ endOrZero rows names numbers row least most
 
--- why a row whose fields are right is refused by itself: for its depth, or for its end
+-- why a row is refused where all fields are right: for its depth, or for its end
 abbrev pub endRefusal : Bool → Refusal
 endRefusal true = TooDeep
 endRefusal false = WrongEnd
 
--- what `refuse` tells of such a row: the first wrong field from it on, and where there is none the row
+-- what `refuse` tells of a row that is wrong by itself: the first wrong field from it on, and where there is none the row
 unfoldable pub refusedOf : List ℕ → ℕ → ℕ → ℕ → Bool → Checked
 refusedOf rows count names row deep = andThen (firstFrom (fieldsAt rows names) (count - row) row) (Refused (endRefusal deep) row)
 

@@ -1,7 +1,8 @@
 // The check of a lent row table. It asks nothing of the caller: a table too short for its rows is answered too.
-// One loop goes over the rows. A row is open from where it stands up to its end; `ends`, `left` and `own` keep of each open row, the
-// outermost first, its end, the items of its kind that are left for the children to come, and its number. A row is a child of the
-// innermost open one, which takes it; then it is opened, or, if it holds no rows, those that end with it are closed.
+// One loop goes over the rows; where a row is wrong by itself, a second one looks at the fields from there on. A row is open from where it
+// stands up to its end; `ends`, `left` and `own` keep of each open row, the outermost first, its end, the items of its kind that are left
+// for the children to come, and its number. A row is a child of the innermost open one, which takes it; then it is opened, or, if it
+// holds no rows, those that end with it are closed.
 use kinds::Kind;
 use refusals::Refusal;
 ghost use mathlib.Core.Path.{_≡_};
@@ -18,7 +19,7 @@ pub enum Checked {
     Refused(Refusal, usize),
 }
 
-// How many rows are open, and the first row found so far whose children do not fit.
+// How many rows are open, and the first row found so far whose children do not fit, the count of rows if none is.
 struct Progress {
     depth: usize,
     first: usize,
@@ -208,7 +209,7 @@ fn refuse(rows: &[u32], count: usize, names: usize, row: usize, deep: bool) -> C
     Checked::Refused(Refusal::WrongEnd, row)
 }
 
-// The rows after row 0, which is placed. The first that is wrong by itself is told at once, and one whose children do not fit at the end.
+// The rows after row 0, which is placed. The first that is wrong by itself is told by `refuse`, and one whose children do not fit at the end.
 fn check_rest(
     rows: &[u32],
     count: usize,

@@ -2,4 +2,5 @@ pub mod Merging
 pub mod Timing
 pub mod Written
 pub mod Shared
+pub mod Reasons
 pub mod Marked

@@ -1,5 +1,6 @@
 // What evaluating an expression does to the local: da/expr_effect.rs, over rows. The effect of a row and its writing on both
-// outcomes are worked out together, which visits each row once; whoever asks passes over quiet rows before (`all_quiet`).
+// outcomes are worked out together, in one visit a row; whoever asks passes over quiet rows before (`all_quiet`), and rows that the reference
+// test decides are looked at by it.
 use effect_rules::ExprDa;
 use effect_rules::ExprEffect;
 use effect_rules::Form;

@@ -11,7 +11,7 @@ use lib.Dec.{eqb, leb, ltb, leb·suc-suc, eqb·suc-zero}
 use borrow.Author.Tests.{ltb-true, ltb-false, le-ltb, le-leb, lt-leb, leb-true, eqb-true, eqb-false, eq-eqb, ne-eqb}
 use Rattle.kinds.specs.declared.Kind.{Kind}
 use Rattle.kinds.specs.Kinds.{Class, absent, path, seg, delay, intra, star-or-list, event, arm, decl, S, E, L, Sides, zero-only, up-to, name-number, Item, kinds, noEntry, entry, classNumber, ofClass, isKind, inClass, sideFits, takes}
-use Rattle.kinds.specs.Steps.{sidesNumber, sideBelow, before, amount, firstOf, pastOf, bit, itemNumber, itemsNumber, ofFirst, takesFirst, repeatsFirst, restFirst, afterFirst, numbers}
+use Rattle.kinds.specs.Steps.{sidesNumber, sideBelow, countBefore, amount, firstOf, pastOf, bit, itemNumber, itemsNumber, ofFirst, takesFirst, repeatsFirst, restFirst, numbers}
 use Rattle.kinds.proofs.Below.{true-not-false, both-true, everyBelow, below}
 
 pub kinds-count : length kinds ≡ 66
@@ -45,7 +45,7 @@ right : Class → Bool
 right c = everyBelow (agrees c) 66 && (ltb (firstOf c) 128 && (leb (pastOf c) 66 && ltb 0 (pastOf c)))
 
 all-right : (c : Class) → right c ≡ true
-unfolding right everyBelow agrees inRange firstOf pastOf before amount ofClass inClass isKind classNumber entry kinds
+unfolding right everyBelow agrees inRange firstOf pastOf countBefore amount ofClass inClass isKind classNumber entry kinds
 all-right absent = refl
 all-right path = refl
 all-right seg = refl
@@ -91,7 +91,7 @@ in-range c k = go (ltb k 66) refl
 
 -- the kind `none` is 0
 is-absent : (k : ℕ) → eqb k 0 ≡ inClass absent k
-unfolding firstOf pastOf before amount ofClass classNumber kinds
+unfolding firstOf pastOf countBefore amount ofClass classNumber kinds
 is-absent k = sym (below-one k) ∙ sym (rw (le-leb 0 k (omega arith))) ∙ in-range absent k
 
 -- the digits of a number whose first item is of a class from a up to b, with the marks p and q, and whose other items are m
@@ -174,15 +174,6 @@ module _ (items : ℕ) where
 
   pub rest-told : (r : ℕ) → r ≡ restFirst items → (r ≡ restFirst items) × ((i : Item) (others : List Item) → items ≡ itemsNumber (i ∷ others) → r ≡ itemsNumber others)
   rest-told r q = (q, λ i others e. q ∙ rw e (rest-number i others))
-
-  after-is : (i : Item) (others : List Item) → items ≡ itemsNumber (i ∷ others) → afterFirst items ≡ cond (i .may-repeat) (itemsNumber (i ∷ others)) (itemsNumber others)
-  unfolding afterFirst
-  after-is i others e = rw e (ap (λ b. cond b (itemsNumber (i ∷ others)) (restFirst (itemsNumber (i ∷ others)))) (repeats-first i others) ∙ ap (cond (i .may-repeat) (itemsNumber (i ∷ others))) (rest-number i others))
-
-  pub after-told : (r : ℕ)
-      → r ≡ afterFirst items
-      → (r ≡ afterFirst items) × ((i : Item) (others : List Item) → items ≡ itemsNumber (i ∷ others) → r ≡ cond (i .may-repeat) (itemsNumber (i ∷ others)) (itemsNumber others))
-  after-told r q = (q, λ i others e. q ∙ after-is i others e)
 
 pub ruleset taking = (taken-of, taken-not, taken-none)
 

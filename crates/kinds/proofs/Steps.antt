@@ -95,15 +95,7 @@ module _ {left : ℕ} {whole : Bool} (w : Left left [] whole) where
   pub left-ended : repeatsFirst left ≡ false → eqb left 0 ≡ whole
   left-ended r = ended left whole (w .items) (w .number) (w .same) r
 
--- measures: what is left becomes no more, and less without a first item
-pub after-less : (left : ℕ) → afterFirst left ≤ left
-unfolding afterFirst restFirst
-after-less left = go (repeatsFirst left)
-  where
-    go : (b : Bool) → cond b left (restFirst left) ≤ left
-    go true = omega arith
-    go false = omega arith
-
+-- measure: what is left becomes less without a first item
 pub rest-less : (left : ℕ) → repeatsFirst left ≡ true → restFirst left < left
 unfolding repeatsFirst restFirst
 rest-less left r = omega (arith, leb-true 32768 (left % 65536) r)

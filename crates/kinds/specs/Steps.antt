@@ -21,9 +21,9 @@ bit true = 1
 bit false = 0
 
 -- The kinds of a class stand together in the table: how many stand before them, and how many they are.
-unfoldable pub before : Class → List Entry → ℕ
-before c [] = 0
-before c (e ∷ es) = cond (ofClass c e) 0 (suc (before c es))
+unfoldable pub countBefore : Class → List Entry → ℕ
+countBefore c [] = 0
+countBefore c (e ∷ es) = cond (ofClass c e) 0 (suc (countBefore c es))
 
 unfoldable pub amount : Class → List Entry → ℕ
 amount c [] = 0
@@ -31,10 +31,10 @@ amount c (e ∷ es) = bit (ofClass c e) + amount c es
 
 -- so the number of its first kind, and the number past its last
 unfoldable pub firstOf : Class → ℕ
-firstOf c = before c kinds
+firstOf c = countBefore c kinds
 
 unfoldable pub pastOf : Class → ℕ
-pastOf c = before c kinds + amount c kinds
+pastOf c = countBefore c kinds + amount c kinds
 
 -- four hex digits an item: two for the number past its class, two for the first of its class, with 0x80 added to the
 -- latter if it may be absent and to the former if it may repeat

@@ -4,7 +4,7 @@ ghost use mathlib.Core.Bool.{true, cond};
 ghost use mathlib.Core.List.{List, _∷_, map};
 ghost use Rattle.kinds.specs.Kinds.{Item, Sides, kinds as kindList, inClass, S, sideFits, takes};
 ghost use Rattle.kinds.specs.Named.{exprClass, stmtClass};
-ghost use Rattle.kinds.specs.Steps.{numbers, sidesNumber, itemsNumber, sideBelow, ofFirst, takesFirst, repeatsFirst, restFirst, afterFirst};
+ghost use Rattle.kinds.specs.Steps.{numbers, sidesNumber, itemsNumber, sideBelow, ofFirst, takesFirst, repeatsFirst, restFirst};
 
 // What the table holds of a kind: how many side numbers it has, 0 for as many as there are names, and its children, four
 // hex digits an item with the first item lowest (specs/Steps).
@@ -520,15 +520,4 @@ pub fn rest_first(items: usize) -> usize
     ensures means { λ r. ⌜ ((i : Item) (others : List Item) → items ≡ itemsNumber (i ∷ others) → r ≡ itemsNumber others) ⌝ }
 {
     items / 65536
-}
-
-// The items that are left for the next child, once the first item has taken one.
-pub fn after_first(items: usize) -> usize
-    ensures { λ r. ⌜ r ≡ afterFirst items ⌝ }
-    ensures means { λ r. ⌜ ((i : Item) (others : List Item) → items ≡ itemsNumber (i ∷ others) → r ≡ cond (i .may-repeat) (itemsNumber (i ∷ others)) (itemsNumber others)) ⌝ }
-{
-    if repeats_first(items) {
-        return items;
-    }
-    rest_first(items)
 }

@@ -1,4 +1,5 @@
-// The lines of a sheet, each from the place where it starts: what it holds, or its lowest refusal.
+// The lines of a sheet, each from the place where it starts: what it holds, or its lowest refusal; whether a row's side number fits its
+// kind (6) is asked after these, where the count of names is known.
 use kinds::Found;
 use refusals::Refusal;
 ghost use mathlib.Core.Path.{_≡_};

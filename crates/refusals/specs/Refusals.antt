@@ -4,9 +4,9 @@ use Rattle.refusals.specs.declared.Refusal.{Refusal}
 use Rattle.refusals.specs.declared.Refusal.the-variants.{WrongLine, WrongNumber, OutOfRange, WrongName, UnknownKind, WrongSide, WrongEnd}
 use Rattle.refusals.specs.declared.Refusal.the-variants.{TooDeep, WrongChildren, TooLong, NoRoom, WrongRecord, WrongTable, NoName}
 
--- "No." and "when". The crate whose definition answers a refusal quotes the whole sentence.
+-- "No." and "when"
 abbrev pub refusalNumber : Refusal → ℕ
--- "missing or extra line, wrong key, a last line without byte 10, a row without exactly five fields"
+-- "missing or extra line, wrong key, a last line without byte 10, a row without exactly five fields split by single spaces"
 refusalNumber WrongLine = 1
 -- "a number that is empty, has a non-digit, has a leading zero and more digits, or is above 4,294,967,295"
 refusalNumber WrongNumber = 2
@@ -30,7 +30,7 @@ refusalNumber TooLong = 10
 refusalNumber NoRoom = 21
 -- "the record has counts outside the ranges of 3, a local not below names, a start or sole above 1, or tables too short for it"
 refusalNumber WrongRecord = 22
--- "a row number in the table breaks 5 to 9, a segment names no listed name, or a jump mark is above 1"
+-- "a row number in the table breaks 5 to 9, a segment names no listed name, or (place 0) a jump mark is above 1"
 refusalNumber WrongTable = 23
 -- "number not below names, or its place passes the end of the bytes lent"
 refusalNumber NoName = 24

@@ -13,7 +13,7 @@ use borrow.Author.Tests.{le-leb, lt-leb}
 use Rattle.writing.specs.Putting.{put}
 use Rattle.writing.proofs.Puts.{front-put}
 use Rattle.refusals.specs.declared.Refusal.{Refusal}
-use Rattle.sheet.specs.Sections.{Line, holds, wrong, Lines, read, refused, prepend, linesFrom}
+use Rattle.sheet.specs.Sections.{Line, right-line, wrong-line, Lines, read, refused, prepend, linesFrom}
 use Rattle.sheet.specs.declared.sections.Section.the-variants as S
 use Rattle.sheet.specs.Steps.{sectionOf, Filled, putWhole}
 
@@ -58,12 +58,12 @@ section-refused (read numbers n) refusal line e = absurd (let z : _≡_ {A = ℕ
 section-refused (refused f m) refusal line e = cc
 
 -- the first of some lines is wrong, or right
-lines-wrong : {A : Type 0} (step : A → ℕ → Line A) (n : ℕ) (by : A) (at line : ℕ) (refusal : Refusal) → 0 < n → step by at ≡ wrong refusal → linesFrom step n by at line ≡ refused refusal line
+lines-wrong : {A : Type 0} (step : A → ℕ → Line A) (n : ℕ) (by : A) (at line : ℕ) (refusal : Refusal) → 0 < n → step by at ≡ wrong-line refusal → linesFrom step n by at line ≡ refused refusal line
 unfolding linesFrom
 lines-wrong step zero by at line refusal h e = absurd (omega arith)
 lines-wrong step (suc n) by at line refusal h e = rw e
 
-lines-holds : {A : Type 0} (step : A → ℕ → Line A) (n : ℕ) (by : A) (at line : ℕ) (numbers : List ℕ) (new : A) (next : ℕ) → 0 < n → step by at ≡ holds numbers new next → linesFrom step n by at line ≡ prepend numbers (linesFrom step (n - 1) new next (line + 1))
+lines-holds : {A : Type 0} (step : A → ℕ → Line A) (n : ℕ) (by : A) (at line : ℕ) (numbers : List ℕ) (new : A) (next : ℕ) → 0 < n → step by at ≡ right-line numbers new next → linesFrom step n by at line ≡ prepend numbers (linesFrom step (n - 1) new next (line + 1))
 unfolding linesFrom
 lines-holds step zero by at line numbers new next h e = absurd (omega arith)
 lines-holds step (suc n) by at line numbers new next h e = let z : suc n - 1 ≡ n = omega arith in rw (e, z)
@@ -102,14 +102,14 @@ module _ {A : Type 0} (step : A → ℕ → Line A) (start : A) (width count fro
 
     module _ (more : 0 < left) where
       -- the next line is wrong
-      pub going-wrong : (refusal : Refusal) → step by at ≡ wrong refusal → linesFrom step count start from first ≡ refused refusal line
+      pub going-wrong : (refusal : Refusal) → step by at ≡ wrong-line refusal → linesFrom step count start from first ≡ refused refusal line
       going-wrong refusal e = g .same ∙ rw (lines-wrong step left by at line refusal more e)
 
-      pub wrong-filled : (refusal : Refusal) (u : List ℕ) → step by at ≡ wrong refusal → Filled width count (linesFrom step count start from first) u
+      pub wrong-filled : (refusal : Refusal) (u : List ℕ) → step by at ≡ wrong-line refusal → Filled width count (linesFrom step count start from first) u
       wrong-filled refusal u e = record { front = λ r numbers next q. never (sym (going-wrong refusal e) ∙ q) }
 
       -- the next line is right
-      pub going-next : (numbers : List ℕ) (new : A) (next : ℕ) → step by at ≡ holds numbers new next → length numbers ≡ width → (u : List ℕ) → u ≡ putWhole t w numbers → Going step start width count from first u new next (left - 1) (line + 1) (w + width)
+      pub going-next : (numbers : List ℕ) (new : A) (next : ℕ) → step by at ≡ right-line numbers new next → length numbers ≡ width → (u : List ℕ) → u ≡ putWhole t w numbers → Going step start width count from first u new next (left - 1) (line + 1) (w + width)
       going-next numbers new next e n u p =
           record {
             numbers = g .numbers ++ numbers;

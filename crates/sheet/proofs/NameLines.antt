@@ -13,7 +13,7 @@ use Rattle.lines.specs.declared.NameLine.the-variants as M
 use Rattle.lines.specs.Lines.{nameLine}
 use Rattle.lines.proofs.Told.{name-told, name-within}
 use Rattle.sheet.specs.declared.sections.Section.the-variants.{Read, Refused}
-use Rattle.sheet.specs.Sections.{wrong, nameStep, nameNumbers, nameText, namesFrom}
+use Rattle.sheet.specs.Sections.{wrong-line, nameStep, nameNumbers, nameText, namesFrom}
 use Rattle.sheet.specs.Steps.{sectionOf, Filled, putWhole, Short}
 use Rattle.sheet.proofs.Going.{put-none, put-all, put-length, Going, going-start, going-done, going-filled, going-wrong, wrong-filled, going-next}
 
@@ -47,7 +47,7 @@ module _ (s : List ℕ) (from count : ℕ) (t₀ t : List ℕ) (at left line w b
   name-loop-filled h = going-filled (nameStep s) [] 3 count from 3 t _ at left line w (g .going) h
 
   module _ (more : 0 < left) (r : NameLine) (q : r ≡ nameLine (take (end - before) (drop before s)) s at) where
-    step-wrong : (refusal : Refusal) → r ≡ M.Wrong refusal → nameStep s (take (end - before) (drop before s)) at ≡ wrong refusal
+    step-wrong : (refusal : Refusal) → r ≡ M.Wrong refusal → nameStep s (take (end - before) (drop before s)) at ≡ wrong-line refusal
     unfolding nameStep
     step-wrong refusal e = rw (← q, e)
 

@@ -20,8 +20,8 @@ use Rattle.sheet.specs.declared.header.Head.the-variants as H
 use Rattle.sheet.specs.declared.header.Facts.the-variants as F
 use Rattle.sheet.specs.declared.sections.Section.{Section}
 use Rattle.sheet.specs.declared.sections.Section.the-variants as S
-use Rattle.sheet.specs.Header.{Greatest, up-to, below-names, greatest, HeaderLine, headLines, factLines, recordBy, firstFact}
-use Rattle.sheet.specs.Sections.{Lines, read, refused, holds, wrong, prepend, afterLine, linesFrom, ofNumber, numberStep, headFrom, factsFrom}
+use Rattle.sheet.specs.Header.{Greatest, at-most, below-names, greatest, HeaderLine, headLines, factLines, recordBy, firstFact}
+use Rattle.sheet.specs.Sections.{Lines, read, refused, right-line, wrong-line, prepend, afterLine, linesFrom, ofNumber, numberStep, headFrom, factsFrom}
 use Rattle.sheet.specs.Steps.{givenGreatest, isBelowNames, keyLine, KeyHeld, greatestBy, KeyRead, headerFrom, sectionOf, Filled, headOf, factsOf}
 use Rattle.sheet.proofs.Going.{put-all, never, section-read, section-refused, Going, going-start, going-done, going-filled, going-wrong, wrong-filled, going-next}
 
@@ -53,7 +53,7 @@ unfolding greatestBy keyLine
 greatest-told l names = go (l .high)
   where
     go : (g : Greatest) → cond (isBelowNames g) (names - 1) (givenGreatest g) ≡ greatest g names
-    go (up-to n) = refl
+    go (at-most n) = refl
     go below-names = refl
 
 pub key-told : (line : KeyLine) (names : ℕ) (s : List ℕ) (at high : ℕ) (r : NumberLine) → high ≡ greatestBy line names → r ≡ numberLine (take (line .size - 0) (drop 0 (line .key))) (line .low) high s at → KeyRead line names s at r
@@ -112,7 +112,7 @@ module _ (s : List ℕ) (from first names line : ℕ) (header : List KeyLine) (t
       told : r ≡ numberLine (here d .line .key) (here d .line .low) (greatest (here d .line .high) names) s at
       told = q .told (here d .line) (here d .is)
 
-      step-wrong : (refusal : Refusal) → r ≡ N.Wrong refusal → numberStep names s (headerFrom (first + i)) at ≡ wrong refusal
+      step-wrong : (refusal : Refusal) → r ≡ N.Wrong refusal → numberStep names s (headerFrom (first + i)) at ≡ wrong-line refusal
       unfolding numberStep
       step-wrong refusal e = rw (here d .rest, ← told, e)
 

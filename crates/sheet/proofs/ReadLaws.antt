@@ -21,7 +21,7 @@ use Rattle.lines.specs.declared.RowLine.the-variants as R
 use Rattle.lines.specs.Lines.{jumpMark, nameLine, rowAt}
 use Rattle.lines.proofs.Told.{field-within, field-back, field-after, NameTold, name-told, name-text, row-told}
 use Rattle.sheet_record.specs.Records.{offsetAt, sizeAt, markAt, textAt}
-use Rattle.sheet.specs.Sections.{Line, holds, wrong, Lines, read, refused, prepend, afterLine, linesFrom, nameNumbers, nameText, ofName, nameStep, rowNumbers, ofRow, rowStep}
+use Rattle.sheet.specs.Sections.{Line, right-line, wrong-line, Lines, read, refused, prepend, afterLine, linesFrom, nameNumbers, nameText, ofName, nameStep, rowNumbers, ofRow, rowStep}
 use Rattle.sheet.proofs.Going.{never}
 
 -- the first of n lines that were read: what it holds, and the lines after it
@@ -30,7 +30,7 @@ record First {A : Type 0} (step : A → ℕ → Line A) (n : ℕ) (by : A) (at l
   new : A
   next : ℕ
   others : List ℕ
-  is : step by at ≡ holds own new next
+  is : step by at ≡ right-line own new next
   split : numbers ≡ own ++ others
   after : linesFrom step (n - 1) new next (line + 1) ≡ read others end
 
@@ -39,22 +39,22 @@ unfolding linesFrom
 first-line {A = A} step zero by at line numbers end e h = absurd (omega arith)
 first-line {A = A} step (suc n) by at line numbers end e h = go (step by at) refl e
   where
-    rest : (own : List ℕ) (new : A) (next : ℕ) → step by at ≡ holds own new next → (l : Lines) → linesFrom step n new next (line + 1) ≡ l → prepend own l ≡ read numbers end → First step (suc n) by at line numbers end
+    rest : (own : List ℕ) (new : A) (next : ℕ) → step by at ≡ right-line own new next → (l : Lines) → linesFrom step n new next (line + 1) ≡ l → prepend own l ≡ read numbers end → First step (suc n) by at line numbers end
     rest own new next q (read others last) p e =
         let z : suc n - 1 ≡ n = omega arith in
         record { own = own; new = new; next = next; others = others; is = q; split = cc; after = rw z (cc) }
     rest own new next q (refused refusal l) p e = never e
 
     go : (l : Line A) → step by at ≡ l → afterLine l line (λ after next. linesFrom step n after next (line + 1)) ≡ read numbers end → First step (suc n) by at line numbers end
-    go (holds own new next) q e = rest own new next q (linesFrom step n new next (line + 1)) refl e
-    go (wrong refusal) q e = never e
+    go (right-line own new next) q e = rest own new next q (linesFrom step n new next (line + 1)) refl e
+    go (wrong-line refusal) q e = never e
 
 -- line i of lines that were read, after a text and at a place: what it holds, and that its numbers stand in its place
 record LineAt {A : Type 0} (step : A → ℕ → Line A) (width : ℕ) (numbers : List ℕ) (i : ℕ) (by : A) (at : ℕ) : Type 0 where
   own : List ℕ
   new : A
   next : ℕ
-  is : step by at ≡ holds own new next
+  is : step by at ≡ right-line own new next
   placed : (j : ℕ) → j < width → getD numbers (width * i + j) 0 ≡ getD own j 0
 
 -- line i of n lines that were read, and the line after it
@@ -65,7 +65,7 @@ record Two {A : Type 0} (step : A → ℕ → Line A) (width n : ℕ) (numbers :
   after : suc i < n → LineAt step width numbers (suc i) (this .new) (this .next)
 
 -- lines that put `width` numbers each into a table
-module _ {A : Type 0} (step : A → ℕ → Line A) (width : ℕ) (wide : (by : A) (at : ℕ) (own : List ℕ) (new : A) (next : ℕ) → step by at ≡ holds own new next → length own ≡ width) where
+module _ {A : Type 0} (step : A → ℕ → Line A) (width : ℕ) (wide : (by : A) (at : ℕ) (own : List ℕ) (new : A) (next : ℕ) → step by at ≡ right-line own new next → length own ≡ width) where
   module _ {n : ℕ} {by : A} {at line : ℕ} {numbers : List ℕ} {end : ℕ} (f : First step n by at line numbers end) where
     own-wide : length (f .own) ≡ width
     own-wide = wide by at (f .own) (f .new) (f .next) (f .is)
@@ -126,11 +126,11 @@ record NameHeld (s text : List ℕ) (at : ℕ) (own new : List ℕ) (next : ℕ)
   own-is : own ≡ nameNumbers name
   new-is : new ≡ nameText s name
 
-name-held : (s text : List ℕ) (at : ℕ) (own new : List ℕ) (next : ℕ) → nameStep s text at ≡ holds own new next → NameHeld s text at own new next
+name-held : (s text : List ℕ) (at : ℕ) (own new : List ℕ) (next : ℕ) → nameStep s text at ≡ right-line own new next → NameHeld s text at own new next
 unfolding nameStep
 name-held s text at own new next e = go (nameLine text s at) refl e
   where
-    go : (l : NameLine) → nameLine text s at ≡ l → ofName s l ≡ holds own new next → NameHeld s text at own new next
+    go : (l : NameLine) → nameLine text s at ≡ l → ofName s l ≡ right-line own new next → NameHeld s text at own new next
     go (M.Read name n) q e = record { name = name; told = name-told text s at name next (cc); own-is = cc; new-is = cc }
     go (M.Wrong refusal) q e = absurd (let z : _≡_ {A = ℕ} 0 1 = cc in omega arith)
 
@@ -175,7 +175,7 @@ module _ (s numbers : List ℕ) (i : ℕ) (text : List ℕ) (at : ℕ) (l : Line
   next-is : l .next ≡ offsetAt numbers i + sizeAt numbers i + 1
   next-is = told .goes-on ∙ field-after 10 10 s (at + 5) (told .ended) ∙ rw (offset-is, size-is)
 
-name-wide : (s text : List ℕ) (at : ℕ) (own new : List ℕ) (next : ℕ) → nameStep s text at ≡ holds own new next → length own ≡ 3
+name-wide : (s text : List ℕ) (at : ℕ) (own new : List ℕ) (next : ℕ) → nameStep s text at ≡ right-line own new next → length own ≡ 3
 name-wide s text at own new next e = rw (name-held s text at own new next e .own-is)
 
 -- names that were read: three numbers each, which are its entry
@@ -240,15 +240,15 @@ record RowHeld (names : ℕ) (s : List ℕ) (at : ℕ) (own : List ℕ) (next : 
   is : rowAt names s at ≡ R.Read row next
   own-is : own ≡ rowNumbers row
 
-row-held : (names : ℕ) (s : List ℕ) (by : Unit {0}) (at : ℕ) (own : List ℕ) (new : Unit {0}) (next : ℕ) → rowStep names s by at ≡ holds own new next → RowHeld names s at own next
+row-held : (names : ℕ) (s : List ℕ) (by : Unit {0}) (at : ℕ) (own : List ℕ) (new : Unit {0}) (next : ℕ) → rowStep names s by at ≡ right-line own new next → RowHeld names s at own next
 unfolding rowStep
 row-held names s by at own new next e = go (rowAt names s at) refl e
   where
-    go : (l : RowLine) → rowAt names s at ≡ l → ofRow l ≡ holds own new next → RowHeld names s at own next
+    go : (l : RowLine) → rowAt names s at ≡ l → ofRow l ≡ right-line own new next → RowHeld names s at own next
     go (R.Read row n) q e = record { row = row; is = cc; own-is = cc }
     go (R.Wrong refusal) q e = absurd (let z : _≡_ {A = ℕ} 0 1 = cc in omega arith)
 
-row-wide : (names : ℕ) (s : List ℕ) (by : Unit {0}) (at : ℕ) (own : List ℕ) (new : Unit {0}) (next : ℕ) → rowStep names s by at ≡ holds own new next → length own ≡ 5
+row-wide : (names : ℕ) (s : List ℕ) (by : Unit {0}) (at : ℕ) (own : List ℕ) (new : Unit {0}) (next : ℕ) → rowStep names s by at ≡ right-line own new next → length own ≡ 5
 row-wide names s by at own new next e = rw (row-held names s by at own new next e .own-is)
 
 -- rows that were read: five numbers each, and its kind is one of the table and has its side number

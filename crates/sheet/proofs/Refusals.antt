@@ -19,7 +19,7 @@ use Rattle.lines.specs.Lines.{numberLine, nameLine, rowAt}
 use Rattle.lines.proofs.Refusals.{number-low, name-low, row-low}
 use Rattle.sheet_record.specs.declared.Record.{Record}
 use Rattle.sheet.specs.Header.{HeaderLine, greatest, headLines, factLines, recordBy, firstName, firstFact, firstRow}
-use Rattle.sheet.specs.Sections.{Line, holds, wrong as wrong-line, Lines, read, refused, prepend, afterLine, linesFrom, afterLines, ofNumber, numberStep, ofName, nameStep, ofRow, rowStep, headFrom, factsFrom, namesFrom, rowsFrom}
+use Rattle.sheet.specs.Sections.{Line, right-line, wrong-line, Lines, read, refused, prepend, afterLine, linesFrom, afterLines, ofNumber, numberStep, ofName, nameStep, ofRow, rowStep, headFrom, factsFrom, namesFrom, rowsFrom}
 use Rattle.sheet.specs.Load.{Before, before, stopped, beforeRows, parsed, wrong, afterBefore, lineOf, linesOf}
 
 -- a refusal of lines that start at one: its number, and its line
@@ -45,7 +45,7 @@ module _ {A : Type 0} (step : A → ℕ → Line A) (low : (by : A) (at : ℕ) (
       rest (refused f m) numbers h e = lower (omega arith) (h e)
 
       go : (l : Line A) → step by at ≡ l → ((after : A) (next : ℕ) → linesFrom step n after next (line + 1) ≡ refused refusal place → OfLines (line + 1) refusal place) → afterLine l line (λ after next. linesFrom step n after next (line + 1)) ≡ refused refusal place → OfLines line refusal place
-      go (holds numbers after next) q h e = rest (linesFrom step n after next (line + 1)) numbers (h after next) e
+      go (right-line numbers after next) q h e = rest (linesFrom step n after next (line + 1)) numbers (h after next) e
       go (wrong-line f) q h e =
           let x : f ≡ refusal = cc in
           let y : line ≡ place = cc in

@@ -19,7 +19,7 @@ use Rattle.lines.specs.Lines.{rowLine, rowAt}
 use Rattle.lines.proofs.Told.{row-known}
 use Rattle.sheet.specs.declared.sections.Section.the-variants.{Read, Refused}
 use Rattle.sheet.specs.Header.{firstRow}
-use Rattle.sheet.specs.Sections.{wrong, rowStep, rowNumbers, rowsFrom}
+use Rattle.sheet.specs.Sections.{wrong-line, rowStep, rowNumbers, rowsFrom}
 use Rattle.sheet.specs.Steps.{sectionOf, Filled, putWhole}
 use Rattle.sheet.proofs.Going.{put-none, put-all, put-length, Going, going-start, going-done, going-filled, going-wrong, wrong-filled, going-next}
 
@@ -54,7 +54,7 @@ module _ (names : ℕ) (s : List ℕ) (from count : ℕ) (t₀ t : List ℕ) (at
 
   module _ (more : 0 < left) (r : RowLine) (q : r ≡ rowLine s at) where
     -- a line that is wrong
-    step-wrong : (refusal : Refusal) → r ≡ R.Wrong refusal → rowStep names s tt at ≡ wrong refusal
+    step-wrong : (refusal : Refusal) → r ≡ R.Wrong refusal → rowStep names s tt at ≡ wrong-line refusal
     unfolding rowStep rowAt
     step-wrong refusal e = rw (← q, e)
 
@@ -73,7 +73,7 @@ module _ (names : ℕ) (s : List ℕ) (from count : ℕ) (t₀ t : List ℕ) (at
         side-told = p ∙ entry-sides entries k d i (row-loop-known k z) names side ∙ rw (z, y)
 
         -- a side number that its kind does not have
-        side-wrong : not b ≡ true → rowStep names s tt at ≡ wrong WrongSide
+        side-wrong : not b ≡ true → rowStep names s tt at ≡ wrong-line WrongSide
         unfolding rowStep rowAt
         side-wrong n = rw (← q, e, ← side-told, not-true b n)
 

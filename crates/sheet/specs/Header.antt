@@ -1,5 +1,5 @@
--- The lines that hold one number each: document 01, "The sheet", and refusal 3. All that is said of such a line anywhere is read from the two
--- lists here: its key, its range, its line number, which is its place in the sheet, and which number of the record it is. Definitions only.
+-- The lines that hold one number each: document 01, "The sheet", and refusal 3. A line's key, its range, its line number, which is its place in
+-- the sheet, and the number of the record that it tells are read from the two lists here (law `facts-placed`). Definitions only.
 use Prim.Native.Nat.{ℕ, _+_, _-_}
 use Prim.Native.String.{String}
 use mathlib.Core.List.{List, [], _∷_}
@@ -9,11 +9,11 @@ use Rattle.sheet_record.specs.declared.Record.{Record}
 
 -- the greatest number that a line may hold: one that is given, or the greatest that is "below names"
 pub data Greatest : Type 0 where
-  up-to : ℕ → Greatest
+  at-most : ℕ → Greatest
   below-names : Greatest
 
 abbrev pub greatest : Greatest → ℕ → ℕ
-greatest (up-to n) names = n
+greatest (at-most n) names = n
 greatest below-names names = names - 1
 
 -- a line with its key, the least and the greatest number that it may hold, and the number of a record that it tells
@@ -28,15 +28,15 @@ line key low high number = record { key = bytes key; low = low; high = high; num
 
 -- "`sheet=1`, `names=`": the lines before the names; "sheet not 1, names outside 1..500"
 abbrev pub headLines : List HeaderLine
-headLines = line "sheet=" 1 (up-to 1) (λ r. 1) ∷ line "names=" 1 (up-to 500) (λ r. r .names) ∷ []
+headLines = line "sheet=" 1 (at-most 1) (λ r. 1) ∷ line "names=" 1 (at-most 500) (λ r. r .names) ∷ []
 
 -- "`local=`, `start=`, `sole=`, `rows=`": those after the names; "local not below names, start or sole above 1, rows outside 1..2,000"
 abbrev pub factLines : List HeaderLine
 factLines =
     line "local=" 0 below-names (λ r. r .local) ∷
-    line "start=" 0 (up-to 1) (λ r. r .start) ∷
-    line "sole=" 0 (up-to 1) (λ r. r .sole) ∷
-    line "rows=" 1 (up-to 2000) (λ r. r .rows) ∷
+    line "start=" 0 (at-most 1) (λ r. r .start) ∷
+    line "sole=" 0 (at-most 1) (λ r. r .sole) ∷
+    line "rows=" 1 (at-most 2000) (λ r. r .rows) ∷
     []
 
 -- the record of so many names and the numbers of the lines after them, each in the place that its line tells of

@@ -17,7 +17,7 @@ use Rattle.sheet.specs.declared.Loaded.the-variants.{Done, Refused}
 use Rattle.sheet.specs.Header.{recordBy, firstRow}
 use Rattle.sheet.specs.Sections.{Lines, afterLines, headFrom, namesFrom, factsFrom, rowsFrom}
 
--- what each answer is in numbers: the refusal's number, 0 for a good load; the place, "a line number from 1, or 0"; and the
+-- what each answer is in numbers: the refusal's number, 0 for a good load; the place, "a line number from 1 .., or 0"; and the
 -- record, zeros where it is refused
 abbrev pub refusalOf : Loaded → ℕ
 refusalOf (Done r) = 0

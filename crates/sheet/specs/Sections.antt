@@ -18,8 +18,8 @@ use Rattle.sheet.specs.Header.{HeaderLine, greatest, headLines, factLine
 
 -- what is told of a line: its numbers, what the lines after it go by, and where the next one starts; or what is wrong
 pub data Line (A : Type 0) : Type 0 where
-  holds : (numbers : List ℕ) → (after : A) → (next : ℕ) → Line A
-  wrong : Refusal → Line A
+  right-line : (numbers : List ℕ) → (after : A) → (next : ℕ) → Line A
+  wrong-line : Refusal → Line A
 
 -- what is told of lines: their numbers, and where the line after them starts; or the first refusal, and its line
 pub data Lines : Type 0 where
@@ -32,8 +32,8 @@ prepend numbers (refused refusal line) = refused refusal line
 
 -- the lines after one that is right; one that is wrong is refused at its number
 abbrev pub afterLine : {A : Type 0} → Line A → ℕ → (A → ℕ → Lines) → Lines
-afterLine (holds numbers after next) line more = prepend numbers (more after next)
-afterLine (wrong refusal) line more = refused refusal line
+afterLine (right-line numbers after next) line more = prepend numbers (more after next)
+afterLine (wrong-line refusal) line more = refused refusal line
 
 -- so many lines from a place and a line number on, by what is told of a line at a place and of what it goes by
 unfoldable pub linesFrom : {A : Type 0} → (A → ℕ → Line A) → ℕ → A → ℕ → ℕ → Lines
@@ -47,11 +47,11 @@ afterLines refuse (refused refusal line) more = refuse refusal line
 
 -- a line with one number goes by the list of those still to come
 abbrev pub ofNumber : List HeaderLine → NumberLine → Line (List HeaderLine)
-ofNumber others (N.Value value next) = holds (value ∷ []) others next
-ofNumber others (N.Wrong refusal) = wrong refusal
+ofNumber others (N.Value value next) = right-line (value ∷ []) others next
+ofNumber others (N.Wrong refusal) = wrong-line refusal
 
 unfoldable pub numberStep : ℕ → List ℕ → List HeaderLine → ℕ → Line (List HeaderLine)
-numberStep names s [] at = wrong WrongLine
+numberStep names s [] at = wrong-line WrongLine
 numberStep names s (l ∷ others) at = ofNumber others (numberLine (l .key) (l .low) (greatest (l .high) names) s at)
 
 -- the first lines of the sheet; no range of theirs asks for the count of names
@@ -71,8 +71,8 @@ abbrev pub nameText : List ℕ → Name → List ℕ
 nameText s name = take (name .length) (drop (name .offset) s)
 
 abbrev pub ofName : List ℕ → NameLine → Line (List ℕ)
-ofName s (M.Read name next) = holds (nameNumbers name) (nameText s name) next
-ofName s (M.Wrong refusal) = wrong refusal
+ofName s (M.Read name next) = right-line (nameNumbers name) (nameText s name) next
+ofName s (M.Wrong refusal) = wrong-line refusal
 
 -- a name goes by the text of the one before it
 unfoldable pub nameStep : List ℕ → List ℕ → ℕ → Line (List ℕ)
@@ -86,8 +86,8 @@ abbrev pub rowNumbers : Row → List ℕ
 rowNumbers row = row .kind ∷ row .side ∷ row .lo ∷ row .hi ∷ row .end ∷ []
 
 abbrev pub ofRow : RowLine → Line (Unit {0})
-ofRow (R.Read row next) = holds (rowNumbers row) tt next
-ofRow (R.Wrong refusal) = wrong refusal
+ofRow (R.Read row next) = right-line (rowNumbers row) tt next
+ofRow (R.Wrong refusal) = wrong-line refusal
 
 -- a row goes by nothing but the count of names
 unfoldable pub rowStep : ℕ → List ℕ → Unit {0} → ℕ → Line (Unit {0})

@@ -20,17 +20,17 @@ use Rattle.sheet.specs.declared.header.Facts.{Facts}
 use Rattle.sheet.specs.declared.header.Facts.the-variants as F
 use Rattle.sheet.specs.declared.sections.Section.{Section}
 use Rattle.sheet.specs.declared.sections.Section.the-variants as S
-use Rattle.sheet.specs.Header.{Greatest, up-to, below-names, greatest, HeaderLine, headLines, factLines, recordBy}
+use Rattle.sheet.specs.Header.{Greatest, at-most, below-names, greatest, HeaderLine, headLines, factLines, recordBy}
 use Rattle.sheet.specs.Sections.{Lines, read, refused}
 use Rattle.sheet.specs.Load.{Before, before, stopped, beforeRows, Parsed, parsed, wrong, linesOf, Result, finishOf}
 
 -- a line of the header as the code has it: the key in front of six bytes, and its greatest number or that it is below names
 abbrev pub givenGreatest : Greatest → ℕ
-givenGreatest (up-to n) = n
+givenGreatest (at-most n) = n
 givenGreatest below-names = 0
 
 abbrev pub isBelowNames : Greatest → Bool
-isBelowNames (up-to n) = false
+isBelowNames (at-most n) = false
 isBelowNames below-names = true
 
 unfoldable pub keyLine : HeaderLine → KeyLine

@@ -34,7 +34,14 @@ pub enum Facts {
     Refused(Refusal, usize),
 }
 
-const HEADER: [KeyLine; 6] = [
+// The lines before the names, the line of the first name, and the lines between names and rows.
+pub const HEAD_LINES: usize = 2;
+
+pub const FIRST_NAME: usize = HEAD_LINES + 1;
+
+pub const FACT_LINES: usize = 4;
+
+const HEADER: [KeyLine; HEAD_LINES + FACT_LINES] = [
     KeyLine {
         key: [b's', b'h', b'e', b'e', b't', b'='],
         size: 6,
@@ -79,7 +86,7 @@ const HEADER: [KeyLine; 6] = [
     },
 ];
 
-fn header_lines() -> [KeyLine; 6]
+fn header_lines() -> [KeyLine; HEAD_LINES + FACT_LINES]
     ensures { λ r. ⌜ r ≡ map keyLine (headLines ++ factLines) ⌝ }
 {
     HEADER
@@ -146,7 +153,7 @@ fn numbers_from(
 pub fn head_of(s: &[u8]) -> Head
     ensures { λ r. ⌜ r ≡ headOf (headFrom (now (s .entry))) ⌝ }
 {
-    let mut head = [0usize; 2];
+    let mut head = [0usize; HEAD_LINES];
     let read = numbers_from(s, 0, 0, 0, 1, &mut head);
     match read {
         Section::Refused(refusal, line) => Head::Refused(refusal, line),
@@ -159,8 +166,8 @@ pub fn facts_from(s: &[u8], at: usize, names: usize) -> Facts
     requires { ⌜ names ≤ 500 ⌝ }
     ensures { λ r. ⌜ r ≡ factsOf names (factsFrom names (now (s .entry)) at) ⌝ }
 {
-    let mut facts = [0usize; 4];
-    let read = numbers_from(s, at, 2, names, 3 + names, &mut facts);
+    let mut facts = [0usize; FACT_LINES];
+    let read = numbers_from(s, at, HEAD_LINES, names, FIRST_NAME + names, &mut facts);
     match read {
         Section::Refused(refusal, line) => Facts::Refused(refusal, line),
         Section::Read(next) => Facts::Read(

@@ -1,4 +1,4 @@
-// A sheet as loading answers it: the refusals, the record, and the lines read into two lent tables.
+// A sheet as loading answers it: the answer, and the lines read into two lent tables.
 use header::Facts;
 use header::Head;
 use refusals::Refusal;

@@ -1,5 +1,7 @@
 // The two parts of a sheet that have a line for each name and each row, read into the tables as far as these have room: a
 // table that is too short is refused after the last line, and a line before it.
+use super::header::FACT_LINES;
+use super::header::FIRST_NAME;
 use lines::Name;
 use lines::NameLine;
 use lines::Row;
@@ -53,7 +55,7 @@ pub fn names_from(s: &[u8], from: usize, count: usize, names: &mut [u32]) -> Sec
 {
     let mut at = from;
     let mut left = count;
-    let mut line = 3;
+    let mut line = FIRST_NAME;
     let mut w = 0;
     let mut before = 0;
     let mut before_end = 0;
@@ -96,7 +98,7 @@ pub fn first_row(names: usize) -> usize
     requires { ⌜ names ≤ 500 ⌝ }
     ensures { λ r. ⌜ r ≡ firstRow names ⌝ }
 {
-    names + 7
+    FIRST_NAME + names + FACT_LINES
 }
 
 // The row lines from a place on, after so many names.

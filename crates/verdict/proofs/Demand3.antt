@@ -21,13 +21,13 @@ use Rattle.load.proofs.Refusals.{load-numbers}
 use Rattle.answers.specs.declared.Answer.{Answer}
 use Rattle.answers.specs.declared.Answer.the-variants.{Refused}
 use Rattle.answers.specs.Answers.{AcceptedAnswer, numbersOf}
-use Rattle.ask.specs.Ask.{rowTree, walked, askOf}
+use Rattle.ask.specs.Ask.{rowTree, askOf}
 use Rattle.ask.specs.Meaning.{AskMeans}
 use Rattle.ask.proofs.Meaning.{walk-numbers, ask-means}
 use Rattle.ask.proofs.Loaded.{asked-walks}
 use Rattle.verdict.specs.Sheets.{isJumpName, sheetOf}
 use Rattle.verdict.specs.Verdict.{afterLoad, verdictOf}
-use Rattle.verdict.specs.Meaning.{SheetDemand3, AskedDemand3, VerdictNumbers, walked as walked-numbers, refused, VerdictMeans}
+use Rattle.verdict.specs.Meaning.{SheetDemand3, AskedDemand3, VerdictNumbers, by-walk, refused, VerdictMeans}
 
 -- a name that begins so has mark 1
 mark-jump : (name : List ℕ) → eqb (jumpMark name) 1 ≡ isJumpName name
@@ -89,7 +89,7 @@ unfolding verdictOf
 verdict-numbers s rowRoom nameRoom a q = rw q (go (loadOf s rowRoom nameRoom .answer) refl)
   where
     go : (l : Loaded) → loadOf s rowRoom nameRoom .answer ≡ l → VerdictNumbers (numbersOf (afterLoad l (loadOf s rowRoom nameRoom .rows) (loadOf s rowRoom nameRoom .names)))
-    go (L.Done r) e = rw (asked-walks r _ _ (load-asked s rowRoom nameRoom r e)) (walked-numbers (walk-numbers (walked r (loadOf s rowRoom nameRoom .rows) (loadOf s rowRoom nameRoom .names))))
+    go (L.Done r) e = rw (asked-walks r _ _ (load-asked s rowRoom nameRoom r e)) (by-walk (walk-numbers r (loadOf s rowRoom nameRoom .rows) (loadOf s rowRoom nameRoom .names)))
     go (L.Refused refusal line) e = refused (refusalNumber refusal) line (number-some refusal) (load-numbers s rowRoom nameRoom (L.Refused refusal line) (sym e))
 
 -- demand 3 over bytes

@@ -38,7 +38,7 @@ AskedDemand3 =
 
 -- what a verdict tells in numbers: the walk's, or a refusal of loading with its place, never 22 or 23
 pub data VerdictNumbers : Numbers → Type 0 where
-  walked : {n : Numbers} → WalkNumbers n → VerdictNumbers n
+  by-walk : {n : Numbers} → WalkNumbers n → VerdictNumbers n
   refused : (number place : ℕ) → 1 ≤ number → LoadNumbers number place → VerdictNumbers (fiveNumbers 3 0 number place 0)
 
 -- what an answer means to whoever has the sheet
