@@ -1,3 +1,4 @@
+pub mod RowForms
 pub mod Operands
 pub mod Laws
 pub mod Rust

@@ -18,6 +18,8 @@ ghost use Rattle.expr_effect.specs.Effect.{exprEffectOf};
 ghost use Rattle.expr_effect.specs.Law.{DaTold, EffectTold};
 ghost use Rattle.expr_effect.specs.Steps.{PlacesTold, unguarded};
 
+mod row_effect; // row_effect.rt: the arm of the Rust's match that a row comes to, and the row's effect by it
+
 // The form of a row, where it ends, and where its second and its third operand start, if it has them.
 struct Places {
     form: Form,

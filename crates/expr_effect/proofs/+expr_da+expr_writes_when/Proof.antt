@@ -13,9 +13,9 @@ use Rattle.expr_effect.proofs.+expr_da+expr_writes_when.Lts-expr_da as 
 use Rattle.expr_effect.proofs.expr_writes_when.Reads as expr-writes-when
 use Rattle.expr_effect.proofs.expr_writes_when.Kinds as expr-writes-when-kinds
 use Rattle.expr_effect.proofs.+expr_da+expr_writes_when.Lts-expr_writes_when as expr-writes-when-lts
-use Rattle.row_effect.proofs.combine.Reads as combine-reads
-use Rattle.row_effect.proofs.guard.Reads as guard-reads
-use Rattle.row_effect.proofs.is_whole.Reads as is-whole-reads
+use Rattle.expr_effect.proofs.row_effect.combine.Reads as combine-reads
+use Rattle.expr_effect.proofs.row_effect.guard.Reads as guard-reads
+use Rattle.expr_effect.proofs.row_effect.is_whole.Reads as is-whole-reads
 use Rattle.expr_effect.proofs.operands_of.Reads as operands-of-reads
 use Rattle.expr_effect.proofs.whole.Reads as whole-reads
 use Rattle.expr_effect.proofs.+expr_da+expr_writes_when.{statement}

@@ -1,5 +1,5 @@
 use borrow.Author.Needs.{needs}
-use Rattle.row_effect.proofs.Steps.{form-row}
+use Rattle.expr_effect.proofs.RowForms.{form-row}
 use Rattle.expr_effect.proofs.form_at.Statement.{statement}
 use Rattle.expr_effect.proofs.form_at.Tie as tie
 

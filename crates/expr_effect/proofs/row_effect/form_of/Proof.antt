@@ -1,7 +1,7 @@
 use borrow.Author.Needs.{needs}
-use Rattle.row_effect.proofs.Steps.{forms}
-use Rattle.row_effect.proofs.form_of.Statement.{statement}
-use Rattle.row_effect.proofs.form_of.Tie as tie
+use Rattle.expr_effect.proofs.RowForms.{forms}
+use Rattle.expr_effect.proofs.row_effect.form_of.Statement.{statement}
+use Rattle.expr_effect.proofs.row_effect.form_of.Tie as tie
 
 pub form-of-spec : {M : Type 1} → statement M
 form-of-spec =

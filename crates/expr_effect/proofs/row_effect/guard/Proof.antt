@@ -1,7 +1,7 @@
 use borrow.Author.Needs.{needs}
-use Rattle.row_effect.proofs.Steps.{guards}
-use Rattle.row_effect.proofs.guard.Statement.{statement}
-use Rattle.row_effect.proofs.guard.Tie as tie
+use Rattle.expr_effect.proofs.RowForms.{guards}
+use Rattle.expr_effect.proofs.row_effect.guard.Statement.{statement}
+use Rattle.expr_effect.proofs.row_effect.guard.Tie as tie
 
 pub guard-spec : {M : Type 1} → statement M
 guard-spec =
