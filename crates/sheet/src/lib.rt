@@ -9,8 +9,8 @@ ghost use Prim.Native.Nat.{_≤_};
 ghost use Rattle.sheet.specs.Load.{refusalOf, placeOf, recordOf, beforeRows, lineOf, linesOf};
 ghost use Rattle.sheet.specs.Steps.{Short, beforeOf, answerOf, NamesFilled, BothFilled};
 
-pub mod header; // header.rt: the lines that hold one number each
-pub mod sections; // sections.rt: the lines of names and of rows
+mod header; // header.rt: the lines that hold one number each
+mod sections; // sections.rt: the lines of names and of rows
 
 // The record, or a refusal with its line.
 pub enum Loaded {
