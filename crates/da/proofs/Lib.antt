@@ -1,4 +1,5 @@
 pub mod Merging
+pub mod Walks
 pub mod Timing
 pub mod Written
 pub mod Shared

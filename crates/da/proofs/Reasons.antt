@@ -2,10 +2,10 @@
 -- only what a row gives up with itself counts. By induction over the tree, a class at a time.
 use mathlib.Core.Bool.{Bool, true, false, cond, _&&_, not}
 use mathlib.Core.List.{List, [], _∷_}
-use Prim.Native.Nat.{ℕ, zero, suc, _≤_}
+use Prim.Native.Nat.{ℕ, _≤_}
 use native.Mathlib.Omega.{arith}
 use Rattle.table.specs.Rows.{Forest, nil, node}
-use Rattle.table.specs.Fold.{fold, nth, tail}
+use Rattle.table.specs.Fold.{fold, nth}
 use Rattle.kinds.specs.declared.StmtClass.{StmtClass}
 use Rattle.kinds.specs.declared.StmtClass.the-variants.{Absent, Match, Default, Decl, Blocking, Nonblocking, If, Return, Case, For, While, Repeat, Forever, Block, Fork, Systask, Task, Delayctrl, Eventctrl, Wait, Disable, Null, Unmodelled, NoStmt}
 use Rattle.kinds.specs.Named.{stmtClass, taskEffect, hasDefault}
@@ -17,6 +17,7 @@ use Rattle.da.specs.declared.DaResult.the-variants.{Ok}
 use Rattle.da.specs.declared.CallEffect.{CallEffect}
 use Rattle.da.specs.declared.CallEffect.the-variants.{Inert, Writes, Reads, Unknown}
 use Rattle.da.specs.Outcome.{State, written, isWritten, gains, state, merge, _▷_, goOn, giveUp}
+use Rattle.da.proofs.Walks.{All, none, and, at-place, after-first}
 use Rattle.da.specs.Walk.{DaCtx, Walk, StmtRow, noWalk, exprReads, exprOutWrites, unlessRead, unlessOneRead, evaluated, gainsWhen, assigned, blocking, block, arms, caseOf, ifElse, rounds, whileTrue, callEffect, task, onlyWritten, unlessTime, referring, walkOf, walkAt, walks, daStmt}
 
 -- the walk goes on, or gives up with one of the nine
@@ -24,13 +25,9 @@ pub data Reasoned : DaResult → Type 0 where
   goes-on : (out : DaOut) → Reasoned (Ok out)
   stops : (reason lo hi : ℕ) → 1 ≤ reason → reason ≤ 9 → Reasoned (giveUp reason lo hi)
 
--- a row that does so from every state, and siblings that do
+-- a row that does so from every state
 pub record AlwaysReasoned (w : Walk) : Type 0 where
   pub reasoned : (a : State) → Reasoned (w .walk a)
-
-pub data AllReasoned : List Walk → Type 0 where
-  none : AllReasoned []
-  and : {w : Walk} {ws : List Walk} → AlwaysReasoned w → AllReasoned ws → AllReasoned (w ∷ ws)
 
 -- The parts of a rule
 
@@ -58,15 +55,6 @@ reasoned-evaluated e a n = reasoned-read e (gains (exprOutWrites e) a) (n (gains
 -- no statement
 still : AlwaysReasoned noWalk
 still = record { reasoned = λ a. goes-on (Falls a) }
-
-at-place : (n : ℕ) {ws : List Walk} → AllReasoned ws → AlwaysReasoned (nth noWalk n ws)
-at-place n none = still
-at-place zero (and k ks) = k
-at-place (suc n) (and k ks) = at-place n ks
-
-after-first : {ws : List Walk} → AllReasoned ws → AllReasoned (tail ws)
-after-first none = none
-after-first (and k ks) = ks
 
 -- The rules of single statements
 
@@ -99,15 +87,15 @@ reasoned-rest : (next : State → DaResult) → ((a : State) → Reasoned (next 
 reasoned-rest next n (Falls a) = n a
 reasoned-rest next n Jumps = goes-on Jumps
 
-reasoned-block : {ws : List Walk} → AllReasoned ws → (a : State) → Reasoned (block ws a)
+reasoned-block : {ws : List Walk} → All AlwaysReasoned ws → (a : State) → Reasoned (block ws a)
 reasoned-block none a = goes-on (Falls a)
 reasoned-block (and {w} {ws} k ks) a = reasoned-then (goOn (block ws)) (k .reasoned a) (reasoned-rest (block ws) (λ b. reasoned-block ks b))
 
-reasoned-arms : {ws : List Walk} → AllReasoned ws → (after : State) (all : DaOut) → Reasoned (arms ws after all)
+reasoned-arms : {ws : List Walk} → All AlwaysReasoned ws → (after : State) (all : DaOut) → Reasoned (arms ws after all)
 reasoned-arms none after all = goes-on all
 reasoned-arms (and {w} k ks) after all = reasoned-reads (w .labels) after (reasoned-then _ (k .reasoned after) (λ arm. reasoned-arms ks after (merge all arm)))
 
-reasoned-case : (e : ExprFacts) {ws : List Walk} → AllReasoned ws → (a : State) → Reasoned (caseOf e ws a)
+reasoned-case : (e : ExprFacts) {ws : List Walk} → All AlwaysReasoned ws → (a : State) → Reasoned (caseOf e ws a)
 reasoned-case e {ws} ks a =
     reasoned-evaluated e a λ after.
     reasoned-then _ (reasoned-arms ks after Jumps) λ all.
@@ -144,30 +132,30 @@ module _ (ctx : DaCtx) where
   tested r h = reasoned-time r λ a. reasoned-cond (r .noRef) (goes-on (Falls a)) (h a)
 
   reasoned-row : (class : StmtClass) (r : StmtRow) (es : List ExprFacts) (held : List (List ExprFacts)) {ws : List Walk}
-      → AllReasoned ws
+      → All AlwaysReasoned ws
       → (a : State)
       → Reasoned (walkOf ctx class r es held ws .walk a)
-  reasoned-row Match r es held ks = at-place 0 ks .reasoned
-  reasoned-row Default r es held ks = at-place 0 ks .reasoned
+  reasoned-row Match r es held ks = at-place still 0 ks .reasoned
+  reasoned-row Default r es held ks = at-place still 0 ks .reasoned
   reasoned-row Decl r es held ks = λ a. reasoned-read (nth noFacts 0 es) a (goes-on (Falls a))
   reasoned-row Disable r es held ks = reasoned-time r λ a. reasoned-cond (r .isJump) (goes-on Jumps) (goes-on (Falls a))
   reasoned-row Blocking r es held ks = tested r (reasoned-blocking r (nth [] 0 held) (nth noFacts 1 es) (nth noFacts 2 es) (nth noFacts 3 es))
   reasoned-row Nonblocking r es held ks = tested r λ a. reasoned-cond (not (ctx .sole)) (stops 1 (r .lo) (r .hi) (omega arith) (omega arith)) (reasoned-read (nth noFacts 3 es) a (goes-on _))
-  reasoned-row If r es held ks = tested r (reasoned-if (nth noFacts 0 es) (at-place 1 ks) (at-place 2 ks))
+  reasoned-row If r es held ks = tested r (reasoned-if (nth noFacts 0 es) (at-place still 1 ks) (at-place still 2 ks))
   reasoned-row Block r es held ks = tested r (reasoned-block ks)
   reasoned-row Fork r es held ks = tested r (reasoned-only 5 r (omega arith) (omega arith))
   reasoned-row Case r es held ks = tested r (reasoned-case (nth noFacts 0 es) (after-first ks))
   reasoned-row For r es held ks =
-      tested r λ a. reasoned-then _ (at-place 0 ks .reasoned a) λ out. reasoned-while r (nth true 3 (r .cannotEscape)) (nth noFacts 1 es) (at-place 3 ks) (at-place 2 ks) (state out)
-  reasoned-row While r es held ks = tested r (reasoned-while r (nth true 1 (r .cannotEscape)) (nth noFacts 0 es) (at-place 1 ks) still)
-  reasoned-row Repeat r es held ks = tested r λ a. reasoned-evaluated (nth noFacts 0 es) a λ after. reasoned-rounds r (nth true 1 (r .cannotEscape)) (at-place 1 ks) still after after
-  reasoned-row Forever r es held ks = tested r λ a. reasoned-rounds r (nth true 0 (r .cannotEscape)) (at-place 0 ks) still a a
+      tested r λ a. reasoned-then _ (at-place still 0 ks .reasoned a) λ out. reasoned-while r (nth true 3 (r .cannotEscape)) (nth noFacts 1 es) (at-place still 3 ks) (at-place still 2 ks) (state out)
+  reasoned-row While r es held ks = tested r (reasoned-while r (nth true 1 (r .cannotEscape)) (nth noFacts 0 es) (at-place still 1 ks) still)
+  reasoned-row Repeat r es held ks = tested r λ a. reasoned-evaluated (nth noFacts 0 es) a λ after. reasoned-rounds r (nth true 1 (r .cannotEscape)) (at-place still 1 ks) still after after
+  reasoned-row Forever r es held ks = tested r λ a. reasoned-rounds r (nth true 0 (r .cannotEscape)) (at-place still 0 ks) still a a
   reasoned-row Return r es held ks = tested r λ a. reasoned-read (nth noFacts 0 es) a (goes-on Jumps)
   reasoned-row Task r es held ks = tested r (reasoned-task (callEffect (taskEffect (r .side))) (r .lo) (r .hi))
-  reasoned-row Delayctrl r es held ks = tested r λ a. reasoned-reads (nth [] 0 held) a (at-place 1 ks .reasoned a)
+  reasoned-row Delayctrl r es held ks = tested r λ a. reasoned-reads (nth [] 0 held) a (at-place still 1 ks .reasoned a)
   -- "8 event control"
-  reasoned-row Eventctrl r es held ks = tested r λ a. reasoned-cond (not (isWritten a) && nth noFacts 0 es .refers) (stops 8 (r .lo) (r .hi) (omega arith) (omega arith)) (at-place 1 ks .reasoned a)
-  reasoned-row Wait r es held ks = tested r λ a. reasoned-read (nth noFacts 0 es) a (at-place 1 ks .reasoned a)
+  reasoned-row Eventctrl r es held ks = tested r λ a. reasoned-cond (not (isWritten a) && nth noFacts 0 es .refers) (stops 8 (r .lo) (r .hi) (omega arith) (omega arith)) (at-place still 1 ks .reasoned a)
+  reasoned-row Wait r es held ks = tested r λ a. reasoned-read (nth noFacts 0 es) a (at-place still 1 ks .reasoned a)
   reasoned-row Systask r es held ks = tested r (reasoned-only 9 r (omega arith) (omega arith))
   reasoned-row Null r es held ks = tested r (reasoned-only 9 r (omega arith) (omega arith))
   reasoned-row Unmodelled r es held ks = tested r (reasoned-only 9 r (omega arith) (omega arith))
@@ -175,11 +163,11 @@ module _ (ctx : DaCtx) where
   reasoned-row NoStmt r es held ks = still .reasoned
 
   -- all rows
-  all-reasoned : (f : Forest) → AllReasoned (walks ctx f)
+  all-reasoned : (f : Forest) → All AlwaysReasoned (walks ctx f)
   unfolding fold walkAt
   all-reasoned nil = none
   all-reasoned (node k s lo hi cs others) = and (record { reasoned = reasoned-row (stmtClass k) _ _ _ (all-reasoned cs) }) (all-reasoned others)
 
   -- "Reasons", 1 to 9, and no other
   pub nine-reasons : (f : Forest) (a : State) → Reasoned (daStmt ctx f a)
-  nine-reasons f = at-place 0 (all-reasoned f) .reasoned
+  nine-reasons f = at-place still 0 (all-reasoned f) .reasoned

@@ -2,9 +2,9 @@
 -- gives up nowhere, and falls written or jumps. By induction over the tree, a class at a time.
 use mathlib.Core.Bool.{Bool, true, false, cond, _&&_, not}
 use mathlib.Core.List.{List, [], _∷_}
-use Prim.Native.Nat.{ℕ, zero, suc}
+use Prim.Native.Nat.{ℕ}
 use Rattle.table.specs.Rows.{Forest, nil, node}
-use Rattle.table.specs.Fold.{fold, nth, tail}
+use Rattle.table.specs.Fold.{fold, nth}
 use Rattle.kinds.specs.declared.StmtClass.{StmtClass}
 use Rattle.kinds.specs.declared.StmtClass.the-variants.{Absent, Match, Default, Decl, Blocking, Nonblocking, If, Return, Case, For, While, Repeat, Forever, Block, Fork, Systask, Task, Delayctrl, Eventctrl, Wait, Disable, Null, Unmodelled, NoStmt}
 use Rattle.kinds.specs.Named.{stmtClass, taskEffect, hasDefault}
@@ -16,6 +16,7 @@ use Rattle.da.specs.declared.DaResult.the-variants.{Ok}
 use Rattle.da.specs.declared.CallEffect.{CallEffect}
 use Rattle.da.specs.declared.CallEffect.the-variants.{Inert, Writes, Reads, Unknown}
 use Rattle.da.specs.Outcome.{isWritten, written, merge, _▷_, Accepted}
+use Rattle.da.proofs.Walks.{All, none, and, at-place, after-first}
 use Rattle.da.specs.Walk.{DaCtx, daCtx, Walk, StmtRow, noWalk, unlessOneRead, ifElse, block, arms, caseOf, rounds, callEffect, task, walkOf, walkAt, walks, daStmt}
 
 -- the two answers
@@ -23,13 +24,9 @@ pub data Kept : DaResult → Type 0 where
   falls : Kept (Ok (Falls written))
   jumps : Kept (Ok Jumps)
 
--- a row that is walked to one of them from written, and siblings that are
+-- a row that is walked to one of them from written
 pub record KeepsWritten (w : Walk) : Type 0 where
   pub kept : Kept (w .walk written)
-
-pub data AllKeep : List Walk → Type 0 where
-  none : AllKeep []
-  and : {w : Walk} {ws : List Walk} → KeepsWritten w → AllKeep ws → AllKeep (w ∷ ws)
 
 -- The parts of a rule
 
@@ -52,19 +49,10 @@ kept-reads (e ∷ es) h = kept-reads es h
 still : KeepsWritten noWalk
 still = record { kept = falls }
 
-at-place : (n : ℕ) {ws : List Walk} → AllKeep ws → KeepsWritten (nth noWalk n ws)
-at-place n none = still
-at-place zero (and k ks) = k
-at-place (suc n) (and k ks) = at-place n ks
-
-after-first : {ws : List Walk} → AllKeep ws → AllKeep (tail ws)
-after-first none = none
-after-first (and k ks) = ks
-
 -- The rules that walk children
 
 -- the statements after one that falls are walked from written too
-kept-block : {ws : List Walk} → AllKeep ws → Kept (block ws written)
+kept-block : {ws : List Walk} → All KeepsWritten ws → Kept (block ws written)
 kept-block none = falls
 kept-block (and k ks) = kept-then _ (k .kept) (kept-block ks) jumps
 
@@ -74,12 +62,12 @@ kept-merge falls falls = falls
 kept-merge falls jumps = falls
 kept-merge jumps k = k
 
-kept-arms : {ws : List Walk} {all : DaOut} → Kept (Ok all) → AllKeep ws → Kept (arms ws written all)
+kept-arms : {ws : List Walk} {all : DaOut} → Kept (Ok all) → All KeepsWritten ws → Kept (arms ws written all)
 kept-arms h none = h
 kept-arms h (and {w} k ks) = kept-reads (w .labels) (kept-then _ (k .kept) (kept-arms (kept-merge h falls) ks) (kept-arms (kept-merge h jumps) ks))
 
 -- with a default or without
-kept-case : (e : ExprFacts) {ws : List Walk} → AllKeep ws → Kept (caseOf e ws written)
+kept-case : (e : ExprFacts) {ws : List Walk} → All KeepsWritten ws → Kept (caseOf e ws written)
 kept-case e {ws} ks =
     let b = hasDefault (λ w. w .isDefault) ws && not (isWritten written) in
     kept-then _ (kept-arms jumps ks) (kept-cond b falls falls) (kept-cond b jumps falls)
@@ -115,29 +103,29 @@ module _ (x : ℕ) (marks : ℕ → Bool) where
 
   -- a row whose children keep it; "_ if assigned => Ok(DaOut::Falls(true))" for every form that is not modelled
   keeps-row : (class : StmtClass) (r : StmtRow) (es : List ExprFacts) (held : List (List ExprFacts)) {ws : List Walk}
-      → AllKeep ws
+      → All KeepsWritten ws
       → Kept (walkOf alone class r es held ws .walk written)
-  keeps-row Match r es held ks = at-place 0 ks .kept
-  keeps-row Default r es held ks = at-place 0 ks .kept
+  keeps-row Match r es held ks = at-place still 0 ks .kept
+  keeps-row Default r es held ks = at-place still 0 ks .kept
   keeps-row Decl r es held ks = falls
   keeps-row Disable r es held ks = kept-cond (r .isJump) jumps falls
   keeps-row Blocking r es held ks = passes r (kept-reads (nth [] 0 held) (kept-cond (nth noFacts 2 es .plain) falls falls))
   keeps-row Nonblocking r es held ks = passes r falls
-  keeps-row If r es held ks = passes r (kept-if (nth noFacts 0 es) (at-place 1 ks) (at-place 2 ks))
+  keeps-row If r es held ks = passes r (kept-if (nth noFacts 0 es) (at-place still 1 ks) (at-place still 2 ks))
   keeps-row Block r es held ks = passes r (kept-block ks)
   keeps-row Fork r es held ks = passes r falls
   keeps-row Case r es held ks = passes r (kept-case (nth noFacts 0 es) (after-first ks))
   keeps-row For r es held ks =
-      let f = kept-rounds r (nth true 3 (r .cannotEscape)) (at-place 3 ks) (at-place 2 ks) in
-      passes r (kept-then _ (at-place 0 ks .kept) f f)
-  keeps-row While r es held ks = passes r (kept-rounds r (nth true 1 (r .cannotEscape)) (at-place 1 ks) still)
-  keeps-row Repeat r es held ks = passes r (kept-rounds r (nth true 1 (r .cannotEscape)) (at-place 1 ks) still)
-  keeps-row Forever r es held ks = passes r (kept-rounds r (nth true 0 (r .cannotEscape)) (at-place 0 ks) still)
+      let f = kept-rounds r (nth true 3 (r .cannotEscape)) (at-place still 3 ks) (at-place still 2 ks) in
+      passes r (kept-then _ (at-place still 0 ks .kept) f f)
+  keeps-row While r es held ks = passes r (kept-rounds r (nth true 1 (r .cannotEscape)) (at-place still 1 ks) still)
+  keeps-row Repeat r es held ks = passes r (kept-rounds r (nth true 1 (r .cannotEscape)) (at-place still 1 ks) still)
+  keeps-row Forever r es held ks = passes r (kept-rounds r (nth true 0 (r .cannotEscape)) (at-place still 0 ks) still)
   keeps-row Return r es held ks = passes r jumps
   keeps-row Task r es held ks = passes r (kept-task (callEffect (taskEffect (r .side))) (r .lo) (r .hi))
-  keeps-row Delayctrl r es held ks = passes r (kept-reads (nth [] 0 held) (at-place 1 ks .kept))
-  keeps-row Eventctrl r es held ks = passes r (at-place 1 ks .kept)
-  keeps-row Wait r es held ks = passes r (at-place 1 ks .kept)
+  keeps-row Delayctrl r es held ks = passes r (kept-reads (nth [] 0 held) (at-place still 1 ks .kept))
+  keeps-row Eventctrl r es held ks = passes r (at-place still 1 ks .kept)
+  keeps-row Wait r es held ks = passes r (at-place still 1 ks .kept)
   keeps-row Systask r es held ks = passes r falls
   keeps-row Null r es held ks = passes r falls
   keeps-row Unmodelled r es held ks = passes r falls
@@ -145,14 +133,14 @@ module _ (x : ℕ) (marks : ℕ → Bool) where
   keeps-row NoStmt r es held ks = falls
 
   -- all rows
-  pub all-keep : (f : Forest) → AllKeep (walks alone f)
+  pub all-keep : (f : Forest) → All KeepsWritten (walks alone f)
   unfolding fold walkAt
   all-keep nil = none
   all-keep (node k s lo hi cs others) = and (record { kept = keeps-row (stmtClass k) _ _ _ (all-keep cs) }) (all-keep others)
 
   -- "There is no operation that un-assigns it"
   pub stays-written : (f : Forest) → Kept (daStmt alone f written)
-  stays-written f = at-place 0 (all-keep f) .kept
+  stays-written f = at-place still 0 (all-keep f) .kept
 
   -- "Accepted means falls or jumps"
   pub accepted-from-written : (f : Forest) → Accepted (daStmt alone f written)
