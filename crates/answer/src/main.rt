@@ -1,5 +1,7 @@
 // One sheet on standard input; on standard output its answer, five lines. One byte more than a sheet may have is read, so that a longer
 // input is refused and not cut.
+#![tactic(auto)]
+
 use answers::Answer;
 use libc::{STDIN_FILENO, STDOUT_FILENO};
 

@@ -1,4 +1,6 @@
 // What the caller of asking gets: one of four answers, its numbers, and its text.
+#![tactic(auto)]
+
 ghost use Rattle.std.specs.Prelude.{◌≡◌, ◌+◌, ◌≤◌, length, take};
 ghost use Rattle.writing.specs.Putting.{PutAt};
 ghost use Rattle.answers.specs.Answers.{is_accepted, bit_of, numbers_of, answer_text, filled_text};

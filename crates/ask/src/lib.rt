@@ -1,5 +1,7 @@
 // Asking: a record and two tables that somebody lends are checked, and the walk answers. `ask` asks nothing of its caller; `walk` is for
 // whoever knows that the tables pass. Nothing is written.
+#![tactic(auto)]
+
 ghost use Rattle.std.specs.Prelude.{◌≡◌};
 ghost use Rattle.checks.specs.declared.Checked.TheVariants.{Passed};
 ghost use Rattle.answers.specs.Answers.{numbers_of};

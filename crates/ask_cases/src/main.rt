@@ -2,6 +2,8 @@
 //
 // A frame is `title|names rows local start sole|R|numbers|N|numbers`: a record, a row table of R numbers and a name table of N, with
 // these numbers first and zeros after them. Out come the title and the answer's five lines, joined by `;`.
+#![tactic(auto)]
+
 use answers::Answer;
 use frames::Came;
 use libc::STDOUT_FILENO;

@@ -2,6 +2,8 @@
 //
 // A frame is a line with the decimal number of bytes of its sheet, and then those bytes (`frames`). A sheet of any size is answered; of
 // one that is too long the rest is passed over. A frame that is broken ends the run, with a last line that says which and why.
+#![tactic(auto)]
+
 use answers::Answer;
 use frames::Came;
 use libc::STDOUT_FILENO;

@@ -1,5 +1,7 @@
 // The calls for programs in C and Rust: numbers, slices and arrays of a fixed length, so that no call can be lent too short a
 // place for its answer. `include/da.h` declares them. A result is true exactly where the caller may go on: loaded, accepted, found.
+#![tactic(auto)]
+
 ghost use Rattle.std.specs.Prelude.{◌≡◌, length};
 ghost use Rattle.sheet.specs.Load.{load_of};
 ghost use Rattle.sheet.specs.Meaning.{LoadMeans};

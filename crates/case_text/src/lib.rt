@@ -1,4 +1,6 @@
 // What the programs that run cases share: their text taken apart, text and digests put together, records and tables set.
+#![tactic(auto)]
+
 ghost use Rattle.std.specs.Prelude.{◌≡◌, ◌+◌, ◌%◌, ◌≤◌, ◌<◌, length, get_or, take, drop, set};
 ghost use Rattle.kinds.specs.Words.{kind_of};
 ghost use Rattle.kinds.specs.Named.{kind_number};

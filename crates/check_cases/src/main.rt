@@ -6,6 +6,8 @@
 // - children: of the same rows without side numbers, a kind above 65 being `default`, so that the fields pass.
 // Rows `*nested` or `*flat` stand for so many blocks as the count says, each in the one before it or all in the first. A line without
 // `|` is a word: its kind number, 66 where it is none.
+#![tactic(auto)]
+
 use checks::Checked;
 use libc::{STDIN_FILENO, STDOUT_FILENO};
 

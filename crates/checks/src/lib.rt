@@ -3,6 +3,8 @@
 // stands up to its end; `ends`, `left` and `own` keep of each open row, the outermost first, its end, the items of its kind that are left
 // for the children to come, and its number. A row is a child of the innermost open one, which takes it; then it is opened, or, if it
 // holds no rows, those that end with it are closed.
+#![tactic(auto)]
+
 ghost use Rattle.std.specs.Prelude.{◌≡◌, List, [], ◌<◌, ◌≤◌};
 ghost use Rattle.kinds.specs.Kinds.{Item, fits};
 ghost use Rattle.kinds.specs.Steps.{items_number};

@@ -1,4 +1,6 @@
 // What da_stmt answers, and how the answers of arms meet: DaOut, DaGiveUp, DaResult of da/mod.rs.
+#![tactic(auto)]
+
 ghost use Rattle.std.specs.Prelude.{◌≡◌};
 ghost use Rattle.da.specs.Outcome.{state as state_of, merge as merge_of};
 

@@ -1,4 +1,6 @@
 // The arms of da_stmt that walk no statement, and what the other arms ask before they walk one: da/mod.rs, over rows.
+#![tactic(auto)]
+
 ghost use Rattle.std.specs.Prelude.{◌≡◌, cond, ◌&&◌, ◌+◌, ◌*◌, ◌<◌, length};
 ghost use Rattle.table.specs.Rows.{Nested, tree, kind_at};
 ghost use Rattle.table.specs.Steps.{RowAlone};

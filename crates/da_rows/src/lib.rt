@@ -1,5 +1,7 @@
 // What da_stmt asks of rows before it walks a statement: what evaluating an expression comes to, whether rows refer to a local that is
 // not written, and what a row is to the statement that holds it. da/mod.rs, over rows.
+#![tactic(auto)]
+
 ghost use Rattle.std.specs.Prelude.{◌≡◌, ◌&&◌, ◌||◌, not, ◌+◌, ◌*◌, ◌<◌, length};
 ghost use Rattle.table.specs.Rows.{Nested, tree, end_at};
 ghost use Rattle.table.specs.Fold.{tail};

@@ -1,5 +1,7 @@
 // da_stmt: the walk of a statement, with a small function for each construct that walks statements, in one cycle of calls: da/mod.rs,
 // over rows. A give-up ends every walk above it, unchanged.
+#![tactic(auto)]
+
 ghost use Rattle.std.specs.Prelude.{◌≡◌, ◌&&◌, not, ◌<◌};
 ghost use Rattle.table.specs.Rows.{Nested, tree};
 ghost use Rattle.table.specs.Steps.{RowAlone};

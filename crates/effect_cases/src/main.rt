@@ -8,6 +8,8 @@
 // Out come the rows of the first mention, with the iff of events skipped and included, `_` where there is none; then, where row 0 is a
 // statement, what stmt_no_ref says, and where it is an expression or a target, its effect and whether the local is written once its
 // value is true, and false. Rows whose ends or depth do not pass the check are refused: nobody may ask about them.
+#![tactic(auto)]
+
 ghost use Rattle.std.specs.Prelude.{◌≤◌, length};
 ghost use Rattle.table.specs.Rows.{Nested};
 ghost use Rattle.case_text.specs.RowTexts.{EndsKept};

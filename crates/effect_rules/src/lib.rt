@@ -1,4 +1,6 @@
 // What an expression's row does to the local, from what its operands do: the rules of da/expr_effect.rs, which look at no row.
+#![tactic(auto)]
+
 ghost use Rattle.std.specs.Prelude.{◌≡◌, true, false, ◌||◌};
 ghost use Rattle.effect_rules.specs.Rules.{join as join_of, short_circuit, one_arm, after_cond, effect_of, operands_write, vetted_effect};
 

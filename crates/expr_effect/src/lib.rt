@@ -1,6 +1,8 @@
 // What evaluating an expression does to the local: da/expr_effect.rs, over rows. The effect of a row and its writing on both
 // outcomes are worked out together, in one visit a row; whoever asks passes over quiet rows before (`all_quiet`), and rows that the reference
 // test decides are looked at by it.
+#![tactic(auto)]
+
 ghost use Rattle.std.specs.Prelude.{◌≡◌, true, ◌+◌, ◌*◌, ◌<◌, length};
 ghost use Rattle.table.specs.Rows.{Nested, tree, kind_at, side_at};
 ghost use Rattle.kinds.specs.Named.{expr_class};

@@ -1,5 +1,7 @@
 // Frames on standard input, which the programs of many cases read: a line with the decimal number of bytes, and then those bytes. The
 // number has no zero in front and at most 18 digits.
+#![tactic(auto)]
+
 ghost use Rattle.std.specs.Prelude.{◌≡◌, ◌≤◌, length};
 
 use libc::STDIN_FILENO;

@@ -1,4 +1,6 @@
 // The table of kinds: what document 01 says of each kind, as numbers, and what the rules call it.
+#![tactic(auto)]
+
 ghost use Rattle.std.specs.Prelude.{◌≡◌, true, cond, List, ◌∷◌, map};
 ghost use Rattle.kinds.specs.Kinds.{Item, Sides, kinds as kind_list, in_class, S, side_fits, takes};
 ghost use Rattle.kinds.specs.Named.{expr_class, stmt_class};

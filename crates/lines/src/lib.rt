@@ -1,5 +1,7 @@
 // The lines of a sheet, each from the place where it starts: what it holds, or its lowest refusal; whether a row's side number fits its
 // kind (6) is asked after these, where the count of names is known.
+#![tactic(auto)]
+
 ghost use Rattle.std.specs.Prelude.{◌≡◌, ◌<◌, length};
 ghost use Rattle.lines.specs.Lines.{number_line, jump_mark, name_of, name_line, row_fields, row_line};
 ghost use Rattle.lines.specs.Steps.{KindRead, parts_row, split_row};

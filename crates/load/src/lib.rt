@@ -1,4 +1,6 @@
 // Loading: from the bytes of a sheet to two lent tables and a record.
+#![tactic(auto)]
+
 ghost use Rattle.std.specs.Prelude.{◌≡◌, ◌++◌, ◌-◌, ◌≤◌, length, take, replicate};
 ghost use Rattle.checks.specs.declared.Checked.TheVariants.{Passed};
 ghost use Rattle.checks.specs.Checks.{fields_of};

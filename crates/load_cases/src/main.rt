@@ -11,6 +11,8 @@
 // In a sheet, and in a name table, `;` stands for byte 10, `\hh` for a byte by its two hexadecimal digits, and `[n:text]` for the
 // text n times. In a text so repeated `#` is the number of the repetition from 0, in four digits, and `^` that number plus 2, which
 // is the end of a childless row under row 0; elsewhere that number is 0.
+#![tactic(auto)]
+
 ghost use Rattle.std.specs.Prelude.{◌<◌, length};
 
 use libc::{STDIN_FILENO, STDOUT_FILENO};

@@ -1,5 +1,7 @@
 // Whether control can leave a statement other than at its end, and whether a statement lets simulation time advance: one flat
 // pass each over the rows of a range.
+#![tactic(auto)]
+
 ghost use Rattle.std.specs.Prelude.{◌≡◌, ◌+◌, ◌*◌, ◌<◌, length, leb};
 ghost use Rattle.kinds.specs.Named.{stmt_class};
 ghost use Rattle.table.specs.Rows.{Nested, tree, kind_at, side_at};

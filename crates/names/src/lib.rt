@@ -1,4 +1,6 @@
 // A name's text, from the record and the name table that loading gave and the bytes that it loaded.
+#![tactic(auto)]
+
 ghost use Rattle.std.specs.Prelude.{◌≡◌};
 ghost use Rattle.names.specs.NameText.{name_place, part_at, text_of, refusal_in, NameNumbers, NameMeans};
 

@@ -1,4 +1,6 @@
 // The reference test: one flat pass over the rows of a range, and its uses by their names in da/reads.rs.
+#![tactic(auto)]
+
 ghost use Rattle.std.specs.Prelude.{◌≡◌, true, ◌+◌, ◌*◌, ◌≤◌, ◌<◌, length};
 ghost use Rattle.kinds.specs.Named.{expr_class};
 ghost use Rattle.table.specs.Rows.{Nested, tree, kind_at, side_at};

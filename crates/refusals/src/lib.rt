@@ -1,4 +1,6 @@
 // Why a call is refused: every numbered refusal, in one table.
+#![tactic(auto)]
+
 ghost use Rattle.std.specs.Prelude.{◌≡◌};
 ghost use Rattle.refusals.specs.Refusals.{refusal_number};
 

@@ -1,4 +1,6 @@
 // A sheet as loading answers it: the answer, and the lines read into two lent tables.
+#![tactic(auto)]
+
 ghost use Rattle.std.specs.Prelude.{◌≡◌, ◌≤◌};
 ghost use Rattle.sheet.specs.Load.{refusal_of, place_of, record_of, before_rows, line_of, lines_of};
 ghost use Rattle.sheet.specs.Steps.{Short, before_of, answer_of, NamesFilled, BothFilled};

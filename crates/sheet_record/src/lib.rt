@@ -1,4 +1,6 @@
 // What is told of a loaded sheet beside its rows: the record, and the name table, three numbers a name.
+#![tactic(auto)]
+
 ghost use Rattle.std.specs.Prelude.{◌≡◌, ◌+◌, ◌*◌, ◌≤◌, ◌<◌, leb, length};
 ghost use Rattle.sheet_record.specs.Records.{record_fits, record_held, offset_at, size_at, mark_at, marks_fit};
 

@@ -1,1 +1,2 @@
 // The walk against the paths, as laws; nothing here runs.
+#![tactic(auto)]

@@ -1,5 +1,7 @@
 // Rows of a lent table, five numbers a row: kind, side, lo, hi, end. The readers ask that the row is in the table; `row_end`
 // and `next_at` also tell that what they step to nests, so that whoever walks a tree has its premise from the call.
+#![tactic(auto)]
+
 ghost use Rattle.std.specs.Prelude.{◌≡◌, ◌+◌, ◌*◌, ◌<◌, length};
 ghost use Rattle.table.specs.Rows.{kind_at, side_at, lo_at, hi_at, end_at, Nested};
 ghost use Rattle.table.specs.Steps.{RowEnd, NextRow};

@@ -1,5 +1,7 @@
 // Bytes from a place on: where a field stops, the number that it spells, whether a key stands there. A place past the end has
 // no byte.
+#![tactic(auto)]
+
 ghost use Rattle.std.specs.Prelude.{◌≡◌, true, ◌+◌, ◌≤◌, ◌<◌, length, drop};
 ghost use Rattle.text.specs.Fields.{is_stop, stop_at, below};
 ghost use Rattle.text.specs.Steps.{after_byte, after_key, DigitValue, MoreRead, FirstRead, next_field, field_number, graphic_length, GraphicRead};

@@ -1,4 +1,6 @@
 // The call that a server makes: a sheet is loaded into the two tables lent, and asked.
+#![tactic(auto)]
+
 ghost use Rattle.std.specs.Prelude.{◌≡◌, length};
 ghost use Rattle.sheet.specs.Load.{load_of};
 ghost use Rattle.answers.specs.Answers.{numbers_of};

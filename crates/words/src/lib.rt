@@ -1,4 +1,6 @@
 // The kind of a word, by a key of its letters: the word is read where it stands, and compared with none.
+#![tactic(auto)]
+
 ghost use Rattle.std.specs.Prelude.{◌≡◌, true, List, ℕ};
 ghost use Rattle.kinds.specs.Words.{kind_of};
 ghost use Rattle.words.specs.Steps.{letters, key, twelve_from, KeyTold, KindTold};

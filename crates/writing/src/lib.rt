@@ -1,4 +1,6 @@
 // Texts and numbers put into a slice of bytes that the caller lends, from a place on. Each `put` answers the place after what it put.
+#![tactic(auto)]
+
 ghost use Rattle.std.specs.Prelude.{◌≡◌, [], ◌∷◌, ◌+◌, ◌≤◌, length};
 ghost use Rattle.writing.specs.Spelling.{digit_of, spelled, field_text};
 ghost use Rattle.writing.specs.Putting.{PutAt};
