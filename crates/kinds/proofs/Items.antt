@@ -1,8 +1,8 @@
 -- Children against the items of a kind, one child and one item at a time: the cases of `fits`, and of no children at all the items, which must all
 -- repeat, by induction on them.
 use Prim.Native.Nat.{ℕ}
-use mathlib.Core.Path.{◌≡◌, refl}
-use mathlib.Core.Bool.{Bool, true, false, ◌&&◌}
+use mathlib.Core.Path.{◌≡◌, refl, sym, ap, ◌∙◌}
+use mathlib.Core.Bool.{Bool, true, false, cond, ◌&&◌}
 use mathlib.Core.List.{List, [], ◌∷◌}
 use Rattle.kinds.specs.Kinds.{Item, takes, once, many, fits}
 
@@ -29,7 +29,10 @@ module _ (i : Item) (items : List Item) (k : ℕ) (ks : List ℕ) where
 
   pub fits_again : takes i k ≡ true → i.may_repeat ≡ true → fits (i ∷ items) (k ∷ ks) ≡ fits (i ∷ items) ks
   unfolding fits many
-  fits_again t r = rw (t, r)
+  fits_again t r = repeated (k ∷ ks) ∙ ap (λ b. cond b (many (takes i) (fits items) ks) (fits items (k ∷ ks))) t ∙ sym (repeated ks)
+    where
+      repeated : (ys : List ℕ) → fits (i ∷ items) ys ≡ many (takes i) (fits items) ys
+      repeated ys = ap (λ b. cond b (many (takes i) (fits items) ys) (once (takes i) (fits items) ys)) r
 
   -- a child that the item does not take: it is for the next item, or for none
   pub fits_skip : takes i k ≡ false → i.may_repeat ≡ true → fits (i ∷ items) (k ∷ ks) ≡ fits items (k ∷ ks)

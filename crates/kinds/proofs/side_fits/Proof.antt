@@ -9,5 +9,5 @@ unfolding side_below
 side_fits_spec =
     tie.close
     (tie.spec
-    (λ c. side_told _ _ _ _ (rw (eq-eqb _ _ c.if1.true)))
-    (λ c. side_told _ _ _ _ (rw (ne_eqb _ _ c.before.if1.false))))
+    (λ c. side_told _ _ _ _ (rw (eq-eqb _ _ c.if-kind-eq0.true)))
+    (λ c. side_told _ _ _ _ (rw (ne_eqb _ _ c.before.if-kind-eq0.false))))

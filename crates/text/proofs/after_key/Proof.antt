@@ -7,10 +7,10 @@ use Rattle.text.proofs.Prefixes.{Matching, answers}
 use Rattle.text.proofs.after_key.Statement.{statement}
 use Rattle.text.proofs.after_key.Tie as tie
 
-abbrev invariant-loop : tie.invariant-loop
+abbrev invariant-loop : tie.invariant-loop-i
 invariant-loop s at key i₀ i = Matching s at key i
 
-abbrev decreases-loop : tie.decreases-loop
+abbrev decreases-loop : tie.decreases-loop-i
 decreases-loop s at key i₀ i = length key - i
 
 pub after_key_spec : {M : Type 1} → statement M

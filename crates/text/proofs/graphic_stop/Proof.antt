@@ -6,10 +6,10 @@ use Rattle.text.proofs.Runs.{Passing, answers}
 use Rattle.text.proofs.graphic_stop.Statement.{statement}
 use Rattle.text.proofs.graphic_stop.Tie as tie
 
-abbrev invariant-loop : tie.invariant-loop
+abbrev invariant-loop : tie.invariant-loop-i
 invariant-loop s at i₀ i = Passing s at i
 
-abbrev decreases-loop : tie.decreases-loop
+abbrev decreases-loop : tie.decreases-loop-i
 decreases-loop s at i₀ i = length s - i
 
 pub graphic_stop_spec : {M : Type 1} → statement M

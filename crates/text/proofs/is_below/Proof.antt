@@ -6,10 +6,10 @@ use Rattle.text.proofs.Order.{Alike, answers}
 use Rattle.text.proofs.is_below.Statement.{statement}
 use Rattle.text.proofs.is_below.Tie as tie
 
-abbrev invariant-loop : tie.invariant-loop
+abbrev invariant-loop : tie.invariant-loop-i
 invariant-loop a b i₀ i = Alike a b i
 
-abbrev decreases-loop : tie.decreases-loop
+abbrev decreases-loop : tie.decreases-loop-i
 decreases-loop a b i₀ i = length a - i
 
 pub is_below_spec : {M : Type 1} → statement M

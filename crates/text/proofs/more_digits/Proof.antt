@@ -6,10 +6,10 @@ use Rattle.text.proofs.Runs.{Reading, answers}
 use Rattle.text.proofs.more_digits.Statement.{statement}
 use Rattle.text.proofs.more_digits.Tie as tie
 
-abbrev invariant-loop : tie.invariant-loop
+abbrev invariant-loop : tie.invariant-loop-i
 invariant-loop s at value i₀ v₀ i v = Reading s at value i v
 
-abbrev decreases-loop : tie.decreases-loop
+abbrev decreases-loop : tie.decreases-loop-i
 decreases-loop s at value i₀ v₀ i v = length s - i
 
 pub more_digits_spec : {M : Type 1} → statement M

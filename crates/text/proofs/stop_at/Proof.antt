@@ -6,10 +6,10 @@ use Rattle.text.proofs.Stops.{Seeking, answers}
 use Rattle.text.proofs.stop_at.Statement.{statement}
 use Rattle.text.proofs.stop_at.Tie as tie
 
-abbrev invariant-loop : tie.invariant-loop
+abbrev invariant-loop : tie.invariant-loop-i
 invariant-loop s at sep i₀ i = Seeking sep s at i
 
-abbrev decreases-loop : tie.decreases-loop
+abbrev decreases-loop : tie.decreases-loop-i
 decreases-loop s at sep i₀ i = length s - i
 
 pub stop_at_spec : {M : Type 1} → statement M

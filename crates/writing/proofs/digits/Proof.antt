@@ -5,10 +5,10 @@ use Rattle.writing.proofs.Spellings.{Spelling, answers}
 use Rattle.writing.proofs.digits.Statement.{statement}
 use Rattle.writing.proofs.digits.Tie as tie
 
-abbrev invariant-loop : tie.invariant-loop
+abbrev invariant-loop : tie.invariant-loop-rest
 invariant-loop n bytes₀ from₀ rest₀ bytes from rest = Spelling n bytes from rest
 
-abbrev decreases-loop : tie.decreases-loop
+abbrev decreases-loop : tie.decreases-loop-rest
 decreases-loop n bytes₀ from₀ rest₀ bytes from rest = rest
 
 pub digits_spec : {M : Type 1} → statement M
