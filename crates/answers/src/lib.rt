@@ -10,7 +10,7 @@ use da::DaGiveUp;
 use refusals::Refusal;
 
 // One of: falls with written or not; jumps; a give-up with reason, lo and hi; a refusal with its place.
-#[derive(Drop)]
+#[derive(Clone, Copy)]
 pub enum Answer {
     Falls(bool),
     Jumps,
@@ -19,7 +19,7 @@ pub enum Answer {
 }
 
 // An answer in numbers: which of the four it is, from 0 on, and its values.
-#[derive(Drop)]
+#[derive(Clone, Copy)]
 pub struct Numbers {
     pub answer: usize,
     pub state: usize,

@@ -15,14 +15,14 @@ use kinds::Kind;
 use refusals::Refusal;
 
 // The first refusal, with its row; 0 where the table cannot hold its rows.
-#[derive(Drop)]
+#[derive(Clone, Copy)]
 pub enum Checked {
     Passed,
     Refused(Refusal, usize),
 }
 
 // How many rows are open, and the first row found so far whose children do not fit, the count of rows if none is.
-#[derive(Drop)]
+#[derive(Clone, Copy)]
 struct Progress {
     depth: usize,
     first: usize,

@@ -5,28 +5,28 @@ ghost use Rattle.std.specs.Prelude.{◌≡◌};
 ghost use Rattle.da.specs.Outcome.{state as state_of, merge as merge_of};
 
 // What control does after a statement: it reaches the next one, with the local written or not, or it does not.
-#[derive(Drop)]
+#[derive(Clone, Copy)]
 pub enum DaOut {
     Falls(bool),
     Jumps,
 }
 
 // Where and why the walk stopped.
-#[derive(Drop)]
+#[derive(Clone, Copy)]
 pub struct DaGiveUp {
     pub reason: u32,
     pub lo: u32,
     pub hi: u32,
 }
 
-#[derive(Drop)]
+#[derive(Clone, Copy)]
 pub enum DaResult {
     Ok(DaOut),
     Err(DaGiveUp),
 }
 
 // What a call does to the local.
-#[derive(Drop)]
+#[derive(Clone, Copy)]
 pub enum CallEffect {
     Inert,
     Writes,

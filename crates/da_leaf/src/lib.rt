@@ -259,7 +259,7 @@ fn da_eventctrl(rows: &[u32], local: usize, i: usize, end: usize, assigned: bool
 
 // How da_stmt goes on at a row: the local stays written, it walks no statement, or first asks and then walks the body, or walks as the
 // construct does.
-#[derive(Drop)]
+#[derive(Clone, Copy)]
 pub enum Construct {
     StaysWritten,
     Leaf,

@@ -17,14 +17,14 @@ use effect_rules::ExprDa;
 use kinds::StmtClass;
 
 // What a walk is given beside the tables: the local, and whether this block is the only writer of the net.
-#[derive(Drop)]
+#[derive(Clone, Copy)]
 pub struct Context {
     pub local: usize,
     pub sole: bool,
 }
 
 // Whether the local is written after an expression, and then if its value is true, and if it is false.
-#[derive(Drop)]
+#[derive(Clone, Copy)]
 pub struct States {
     pub after: bool,
     pub when_true: bool,
@@ -32,7 +32,7 @@ pub struct States {
 }
 
 // What evaluating an expression comes to.
-#[derive(Drop)]
+#[derive(Clone, Copy)]
 pub enum Evaluated {
     To(States),
     ReadUnwritten(DaGiveUp),
@@ -179,7 +179,7 @@ pub fn refers_unwritten(rows: &[u32], local: usize, from: usize, to: usize, assi
 }
 
 // What a row is to the statement that holds it.
-#[derive(Drop)]
+#[derive(Clone, Copy)]
 pub enum Part {
     Match,
     Default,

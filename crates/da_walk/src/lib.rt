@@ -307,7 +307,7 @@ fn da_rounds(
 }
 
 // Where the condition, the step and the body of a for start.
-#[derive(Drop)]
+#[derive(Clone, Copy)]
 struct ForParts {
     test: usize,
     step: usize,

@@ -21,7 +21,7 @@ use reads::{Iff, Mention};
 use refusals::Refusal;
 
 // What a word says of its row.
-#[derive(Drop)]
+#[derive(Clone, Copy)]
 struct KindAndSide {
     kind: u32,
     side: u32,

@@ -5,7 +5,7 @@ ghost use Rattle.std.specs.Prelude.{◌≡◌, true, false, ◌||◌};
 ghost use Rattle.effect_rules.specs.Rules.{join as join_of, short_circuit, one_arm, after_cond, effect_of, operands_write, vetted_effect};
 
 // What evaluating an expression does to the local, as in the Rust.
-#[derive(Drop)]
+#[derive(Clone, Copy)]
 pub enum ExprDa {
     // No read can happen while the local is unwritten; a write may.
     Clean,
@@ -16,7 +16,7 @@ pub enum ExprDa {
 }
 
 // The effect of an expression, and whether the local is written once its value is known to be true, and to be false.
-#[derive(Drop)]
+#[derive(Clone, Copy)]
 pub struct ExprEffect {
     pub effect: ExprDa,
     pub when_true: bool,
@@ -25,7 +25,7 @@ pub struct ExprEffect {
 
 // The effect of a row, and what its operands write once the row is true, and once it is false: what the row itself writes
 // takes its own effect into account.
-#[derive(Drop)]
+#[derive(Clone, Copy)]
 pub struct RowEffect {
     pub effect: ExprDa,
     pub operands_true: bool,
@@ -34,7 +34,7 @@ pub struct RowEffect {
 
 // What the Rust's match tells apart: a paren's inner expression, logical not, the operand of another unary operator, && and
 // ||, the operands of another binary operator, the arms of a conditional, a call that writes, and whatever expr_no_ref decides.
-#[derive(Drop)]
+#[derive(Clone, Copy)]
 pub enum Form {
     Inner,
     LogNot,

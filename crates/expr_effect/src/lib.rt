@@ -18,7 +18,7 @@ use effect_rules::{ExprDa, ExprEffect, Form, RowEffect};
 mod row_effect; // row_effect.rt: the arm of the Rust's match that a row comes to, and the row's effect by it
 
 // The form of a row, where it ends, and where its second and its third operand start, if it has them.
-#[derive(Drop)]
+#[derive(Clone, Copy)]
 struct Places {
     form: Form,
     end: usize,

@@ -7,7 +7,7 @@ ghost use Rattle.std.specs.Prelude.{◌≡◌, ◌≤◌, length};
 use libc::STDIN_FILENO;
 
 // What came: nothing, since the input has ended; a frame; a line that is no size; or fewer bytes than the size said.
-#[derive(Drop)]
+#[derive(Clone, Copy)]
 pub enum Came {
     Nothing,
     Whole,
@@ -16,14 +16,14 @@ pub enum Came {
 }
 
 // A frame, and how many of its bytes are kept.
-#[derive(Drop)]
+#[derive(Clone, Copy)]
 pub struct Frame {
     pub came: Came,
     pub size: usize,
 }
 
 // What stands at the start of a frame.
-#[derive(Drop)]
+#[derive(Clone, Copy)]
 enum Start {
     Nothing,
     Size(usize),

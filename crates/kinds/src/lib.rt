@@ -8,21 +8,21 @@ ghost use Rattle.kinds.specs.Steps.{numbers, sides_number, items_number, side_be
 
 // What the table holds of a kind: how many side numbers it has, 0 for as many as there are names, and its children, four
 // hex digits an item with the first item lowest (specs/Steps).
-#[derive(Drop)]
+#[derive(Clone, Copy)]
 pub struct Kind {
     pub sides: usize,
     pub children: usize,
 }
 
 // The kind of a word.
-#[derive(Drop)]
+#[derive(Clone, Copy)]
 pub enum Found {
     Is(u32),
     Unknown,
 }
 
 // The kinds that the rules of expressions and targets name.
-#[derive(Drop)]
+#[derive(Clone, Copy)]
 pub enum ExprClass {
     Ident,
     Call,
@@ -37,7 +37,7 @@ pub enum ExprClass {
 }
 
 // The kinds that the rules of statements name; arms, declarations and what stands for an absent statement among them.
-#[derive(Drop)]
+#[derive(Clone, Copy)]
 pub enum StmtClass {
     Absent,
     Match,

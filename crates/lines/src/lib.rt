@@ -10,14 +10,14 @@ use kinds::Found;
 use refusals::Refusal;
 
 // The number on a line, and where the next line starts.
-#[derive(Drop)]
+#[derive(Clone, Copy)]
 pub enum NumberLine {
     Value(usize, usize),
     Wrong(Refusal),
 }
 
 // What the name table holds of a name.
-#[derive(Drop)]
+#[derive(Clone, Copy)]
 pub struct Name {
     pub offset: usize,
     pub length: usize,
@@ -25,14 +25,14 @@ pub struct Name {
 }
 
 // The name on a line, and where the next line starts.
-#[derive(Drop)]
+#[derive(Clone, Copy)]
 pub enum NameLine {
     Read(Name, usize),
     Wrong(Refusal),
 }
 
 // What the row table holds of a row.
-#[derive(Drop)]
+#[derive(Clone, Copy)]
 pub struct Row {
     pub kind: u32,
     pub side: u32,
@@ -42,21 +42,21 @@ pub struct Row {
 }
 
 // The row on a line, and where the next line starts.
-#[derive(Drop)]
+#[derive(Clone, Copy)]
 pub enum RowLine {
     Read(Row, usize),
     Wrong(Refusal),
 }
 
 // The kind that a field names, and the place after the space that ends it; 0 where no space does.
-#[derive(Drop)]
+#[derive(Clone, Copy)]
 struct KindField {
     kind: Found,
     next: usize,
 }
 
 // A row's fields, numbers above 4,294,967,295 where a field spells none, and the place after them.
-#[derive(Drop)]
+#[derive(Clone, Copy)]
 struct Parts {
     kind: Found,
     side: u64,
@@ -66,7 +66,7 @@ struct Parts {
     next: usize,
 }
 
-#[derive(Drop)]
+#[derive(Clone, Copy)]
 enum Split {
     Five(Parts),
     Uneven,

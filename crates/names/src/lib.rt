@@ -8,7 +8,7 @@ use refusals::Refusal;
 use sheet_record::Record;
 
 // Where a name stands in the sheet, as offset and length, or the refusal.
-#[derive(Drop)]
+#[derive(Clone, Copy)]
 pub enum Named {
     At(usize, usize),
     Refused(Refusal),

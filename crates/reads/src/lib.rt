@@ -12,7 +12,7 @@ ghost use Rattle.reads.specs.NoRef.{expr_no_ref, lvalue_no_ref, sensitivity_no_r
 use kinds::{ExprClass, StmtClass};
 
 // Whether the iff of an event is looked at.
-#[derive(Drop)]
+#[derive(Clone, Copy)]
 pub enum Iff {
     Skipped,
     Included,
@@ -20,7 +20,7 @@ pub enum Iff {
 
 // How a row refers: by the path that it has, always, by its expression and, where that is looked at, its iff, or only by what
 // it holds.
-#[derive(Drop)]
+#[derive(Clone, Copy)]
 enum Role {
     ByPath,
     Always,
@@ -29,7 +29,7 @@ enum Role {
 }
 
 // Where the first mention of the local is.
-#[derive(Drop)]
+#[derive(Clone, Copy)]
 pub enum Mention {
     At(usize),
     Nowhere,

@@ -22,14 +22,14 @@ struct KeyLine {
 }
 
 // The count of names, and where they start; or the first refusal, and its line.
-#[derive(Drop)]
+#[derive(Clone, Copy)]
 pub enum Head {
     Read(usize, usize),
     Refused(Refusal, usize),
 }
 
 // The record, and where the rows start; or the first refusal, and its line.
-#[derive(Drop)]
+#[derive(Clone, Copy)]
 pub enum Facts {
     Read(Record, usize),
     Refused(Refusal, usize),

@@ -14,7 +14,7 @@ mod header; // header.rt: the lines that hold one number each
 mod sections; // sections.rt: the lines of names and of rows
 
 // The record, or a refusal with its line.
-#[derive(Drop)]
+#[derive(Clone, Copy)]
 pub enum Loaded {
     Done(Record),
     Refused(Refusal, usize),

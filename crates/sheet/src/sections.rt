@@ -10,7 +10,7 @@ use lines::{Name, NameLine, Row, RowLine};
 use refusals::Refusal;
 
 // Where the lines after the section start, or the first refusal and its line.
-#[derive(Drop)]
+#[derive(Clone, Copy)]
 pub enum Section {
     Read(usize),
     Refused(Refusal, usize),

@@ -5,7 +5,7 @@ ghost use Rattle.std.specs.Prelude.{◌≡◌, ◌+◌, ◌*◌, ◌≤◌, ◌<
 ghost use Rattle.sheet_record.specs.Records.{record_fits, record_held, offset_at, size_at, mark_at, marks_fit};
 
 // What loading tells beside the tables: "counts of names and rows, local, start, sole".
-#[derive(Drop)]
+#[derive(Clone, Copy)]
 pub struct Record {
     pub names: usize,
     pub rows: usize,

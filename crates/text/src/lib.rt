@@ -9,14 +9,14 @@ ghost use Rattle.text.specs.Numbers.{is_digit, bounded};
 
 // The number that a field spells, above 4,294,967,295 where it spells none, and the place after the byte that ends it: 0
 // where that is another byte than it should be, or none.
-#[derive(Drop)]
+#[derive(Clone, Copy)]
 pub struct NumberField {
     pub value: u64,
     pub next: usize,
 }
 
 // The number of some digits, and the place after them.
-#[derive(Drop)]
+#[derive(Clone, Copy)]
 struct Run {
     value: u64,
     stop: usize,
@@ -24,7 +24,7 @@ struct Run {
 
 // Whether a line's text has only bytes from 33 to 126, the place of the first other byte, and the place after the line, 0
 // where byte 10 does not end it.
-#[derive(Drop)]
+#[derive(Clone, Copy)]
 pub struct GraphicLine {
     pub all: bool,
     pub stop: usize,

@@ -9,14 +9,14 @@ use kinds::Found;
 
 // The kind whose word the small letters from a place on are, and the place after them; at most twelve are read, more than
 // any word has.
-#[derive(Drop)]
+#[derive(Clone, Copy)]
 pub struct KindAt {
     pub kind: Found,
     pub stop: usize,
 }
 
 // The key of such letters, and the place after them.
-#[derive(Drop)]
+#[derive(Clone, Copy)]
 struct KeyRead {
     value: u64,
     stop: usize,

@@ -6,10 +6,10 @@ use Rattle.words.proofs.Keys.{Spelling, answers}
 use Rattle.words.proofs.key_at.Statement.{statement}
 use Rattle.words.proofs.key_at.Tie as tie
 
-abbrev invariant-loop : tie.invariant-loop
+abbrev invariant-loop : tie.invariant-loop-i
 invariant-loop s at end i₀ value₀ scale₀ i value scale = Spelling s at i value scale
 
-abbrev decreases-loop : tie.decreases-loop
+abbrev decreases-loop : tie.decreases-loop-i
 decreases-loop s at end i₀ value₀ scale₀ i value scale = end - i
 
 pub key_at_spec : {M : Type 1} → statement M
