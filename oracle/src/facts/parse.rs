@@ -88,7 +88,7 @@ fn spelled(name: &str) -> String {
     name.replace('-', "_")
 }
 
-/// The next word or sign of a text: a bracket, comma or semicolon, a text in quotes, or whatever stands up to a space or one of those.
+/// The next word or sign of a text: a bracket, comma or semicolon, a text in quotes, or whatever stands up to a space, one of those or a field.
 fn token(text: &str) -> usize {
     let signs = ['(', ')', '{', '}', ',', ';'];
     if text.starts_with(signs) {
