@@ -1,4 +1,4 @@
-/* Definite assignment of a local, proved: the calls of crates/capi, in the archive that `rt staticlib capi` makes.
+/* Definite assignment of a local, proved: the calls of crates/capi, in the archive that `rt lib` makes in crates/capi.
  *
  * Whoever calls lends all memory. No call keeps a pointer, allocates, reads a clock, a file or a global, or writes anywhere but
  * into what is lent to it, so any number of threads may call at once, each with tables of its own.
