@@ -1,7 +1,7 @@
 -- The ends of the rows that a row stands in, where the rows before it passed the check of their ends: they rise from the
 -- innermost out. From this come the nesting of the whole table and the right to keep the ends of the open rows alone.
 use Prim.Native.Nat.{ℕ, suc, ◌+◌, ◌≤◌, ◌<◌}
-use mathlib.Core.Path.{◌≡◌, refl}
+use mathlib.Core.Path.{◌≡◌, refl, sym, ap, subst}
 use mathlib.Core.Bool.{Bool, true, false, cond}
 use mathlib.Core.List.{List, [], ◌∷◌}
 use native.Mathlib.Omega.{arith}
@@ -77,7 +77,10 @@ end_after count i end (e ∷ es) h t = ltb-true i end (both_true (ltb i end) (le
 module _ (rows : List ℕ) (i : ℕ) where
   with_above : above (i + 1) (end_at rows i ∷ enclosing rows i) ≡ enclosing rows (i + 1)
   unfolding enclosing ends_before above
-  with_above = rw (native.Mathlib.Numerals.add-one, above_above i (suc i) (omega arith) (ends_before rows i))
+  with_above =
+      let next : above (suc i) (end_at rows i ∷ enclosing rows i) ≡ enclosing rows (suc i) =
+          ap (λ es. cond (ltb (suc i) (end_at rows i)) (end_at rows i ∷ es) es) (above_above i (suc i) (omega arith) (ends_before rows i)) in
+      subst (λ n. above n (end_at rows i ∷ enclosing rows i) ≡ enclosing rows n) (sym (native.Mathlib.Numerals.add-one i)) next
 
   pub enclosing_same : end_at rows i ≤ i + 1 → above (i + 1) (enclosing rows i) ≡ enclosing rows (i + 1)
   unfolding above

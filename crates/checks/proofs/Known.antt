@@ -142,13 +142,13 @@ close_last rows start ends left own d row p first r w h s =
     go i v (still j l e) = ⊎_elim (λ (z : j ≡ d). rw (← e, z) (v.seen own d)) (λ k. still j k e) (eq-or-lt_of_le (le_of_suc-le-suc l))
 
 -- and so are all that end by row p
-pub close_known : (rows : List ℕ) (start : ℕ) (ends left own : List ℕ) (depth row p first d f : ℕ)
+pub close_known : (rows : List ℕ) (start : ℕ) (ends left own : List ℕ) (row p depth first d f : ℕ)
     → Closes ends left own p depth first d f
     → Known rows start ends left own depth row p first
     → Known rows start ends left own d row p f
-close_known rows start ends left own depth row p first d f (stays a) w = w
-close_known rows start ends left own (suc depth) row p first d f (closes {found = r} a s c) w =
-    close_known rows start ends left own depth row p r d f c (close_last rows start ends left own depth row p first r w a s)
+close_known rows start ends left own row p depth first d f (stays a) w = w
+close_known rows start ends left own row p (suc depth) first d f (closes {found = r} a s c) w =
+    close_known rows start ends left own row p depth r d f c (close_last rows start ends left own depth row p first r w a s)
 
 -- the kinds of the siblings from a row on: its own, then the others'
 kinds_some : {rows : List ℕ} {from to : ℕ} → Nested rows from to → from < to → kinds_of (tree rows from to) ≡ kind_at rows from ∷ kinds_of (tree rows (end_at rows from) to)

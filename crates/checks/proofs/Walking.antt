@@ -90,7 +90,7 @@ module _ {rows : List ℕ} {count names start : ℕ} {ends left own : List ℕ} 
     shallow = omega (arith, close_down ends left own (row + 1) depth found d f c, t.shallow);
     right = t.right;
     kept = close_above ends left own (row + 1) depth found d f (rw t.kept rises_here) c ∙ rw t.kept (enclosing_same rows row (omega (arith, t.is)));
-    known = λ g. close_known rows start ends left own depth (row + 1) (row + 1) found d f c (leaf_known rows start ends left own depth row first items end found end_past h t.is t.children s (t.known g));
+    known = λ g. close_known rows start ends left own (row + 1) (row + 1) depth found d f c (leaf_known rows start ends left own depth row first items end found end_past h t.is t.children s (t.known g));
   }
 
   placed : (ends' left' own' : List ℕ) (d f : ℕ) → PlacesRow ends left own depth row end items first ends' left' own' d f → Walking rows count names start ends' left' own' (row + 1) d f

@@ -40,7 +40,7 @@ module _ {A : Type 0} where
 
 -- Every permutation is run
 
-pick_within : {b c d : Command} {cs others : List Command} (go_on : List Command → Command) → Picked d (b ∷ cs) others → Within c (go_on others) → Within (seq d c) (one_picked go_on b cs)
+pick_within : {c d b : Command} {cs others : List Command} (go_on : List Command → Command) → Picked d (b ∷ cs) others → Within c (go_on others) → Within (seq d c) (one_picked go_on b cs)
 pick_within {cs = []} go_on this_one w = within_seq within_refl w
 pick_within {cs = e ∷ cs} go_on this_one w = within_left (within_seq within_refl w)
 pick_within {b} go_on (a_later p) w = within_right (pick_within (λ others. go_on (b ∷ others)) p w)
@@ -50,6 +50,7 @@ picked_within zero e all_picked = within_refl
 picked_within zero e (then_one p q) = absurd (suc-ne-zero _ (sym (one_fewer p) ∙ e))
 picked_within (suc n) e all_picked = within_refl
 picked_within (suc n) {cs = b ∷ cs} e (then_one p q) = pick_within (λ others. picked n others) p (picked_within n (suc_inj (sym (one_fewer p) ∙ e)) q)
+picked_within (suc n) {cs = []} e (then_one {c = c} {others = others} {ds = ds} p q) = elim p [ ]
 
 pub every_order : {cs ds : List Command} → Permuted cs ds → Within (in_turn ds) (any_order cs)
 unfolding any_order
@@ -204,6 +205,7 @@ module _ {a b : Mark} (p : a ⊑ b) where
       let k = each_picked (Keeps a) q h in
       ⊎_elim (λ i. rule_seq i (in_turn_of (Keeps b) (keeps_composes b) ds (each_imply (Keeps a) (Keeps b) (λ d. lift p) ds (each_permuted (Keeps a) r k.1)))) (λ i. rule_seq k.0 (gains_in_turn r k.1 i))
       (one_picked_lem Gains q g)
+  gains_in_turn all_picked h g = elim g [ ]
 
   pub rule_any_gains : (cs : List Command) → Each (Keeps a) cs → OneOf Gains cs → Gains (any_order cs)
   rule_any_gains cs h g = any_order_by cs (λ ds q. gains_in_turn q h g)

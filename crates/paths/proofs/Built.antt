@@ -16,7 +16,7 @@ use Rattle.reads.specs.declared.Iff.TheVariants.{Included}
 use Rattle.reads.specs.Mentions.{mentions, refers}
 use Rattle.reads.proofs.Trees.{refers_node, refers_row}
 use Rattle.paths.specs.Marks.{Mark, full, blank, ◌⊑◌}
-use Rattle.paths.specs.Commands.{PathEvent, read, write, choice, Ending, falls, stops, leaves, again, NoJump, Command, skip, emit, seq, alt, Runs, run_stop, run_skip, run_emit, run_emit_stop, run_seq, run_off, run_left, run_right}
+use Rattle.paths.specs.Commands.{PathEvent, read, write, choice, Ending, falls, stops, leaves, again, NoJump, Command, skip, emit, seq, alt, Runs, run_stop, run_skip, run_emit, run_emit_stop, run_seq, run_off, run_left, run_right, run_exit, run_none, run_more, run_catch}
 use Rattle.paths.specs.Semantics.{Order, row_order, free_order, Semantics}
 use Rattle.paths.specs.AnyOrder.{either_first}
 use Rattle.paths.specs.Triples.{at, never, Ends, Triple}
@@ -53,6 +53,10 @@ never_jumps (of_seq b d) (run_seq x y) = never_jumps d y
 never_jumps (of_seq b d) (run_off i x) = never_jumps b x
 never_jumps (of_alt b d) (run_left x) = never_jumps b x
 never_jumps (of_alt b d) (run_right x) = never_jumps d x
+never_jumps {P = P} b (run_exit {o = o}) = elim b [ ]
+never_jumps {P = P} b (run_none {c = c}) = elim b [ ]
+never_jumps {P = P} b (run_more {c = c} {s = s} {o = o} _) = elim b [ ]
+never_jumps {P = P} b (run_catch {j = j} {c = c} {s = s} {o = o} _) = elim b [ ]
 
 silent_run : {c : Command} {t : List PathEvent} {o : Ending} → Built NotRead c → Runs c t o → Silent t
 silent_run b run_stop = tt
@@ -63,6 +67,10 @@ silent_run (of_seq b d) (run_seq {s = s} {t = t} x y) = each_append NotRead s t 
 silent_run (of_seq b d) (run_off i x) = silent_run b x
 silent_run (of_alt b d) (run_left x) = silent_run b x
 silent_run (of_alt b d) (run_right x) = silent_run d x
+silent_run b (run_exit {o = o}) = elim b [ ]
+silent_run b (run_none {c = c}) = elim b [ ]
+silent_run b (run_more {c = c} {s = s} {o = o} _) = elim b [ ]
+silent_run b (run_catch {j = j} {c = c} {s = s} {o = o} _) = elim b [ ]
 
 ends_at : (a v : Mark) → a ⊑ v → (o : Ending) → NoJump o → Ends (at a) never o v
 ends_at a v p falls j = p

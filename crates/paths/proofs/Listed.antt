@@ -281,6 +281,7 @@ all_among_lem (r ∷ rs) qs h = let b = both_true (is_among r qs) (all_among rs 
 each_among : {A : Type 0} (P : A → Type 0) {a : A} (xs : List A) → Among a xs → Each P xs → P a
 each_among P (x ∷ xs) at_first h = h.0
 each_among P (x ∷ xs) (at_later k) h = each_among P xs k h.1
+each_among {A = A} P {a = a} [] x'' h = elim x'' [ ]
 
 module _ (rs qs : List Run) (e : same_runs rs qs ≡ true) where
   same_parts : (all_among rs qs ≡ true) × (all_among qs rs ≡ true)

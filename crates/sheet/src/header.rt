@@ -12,7 +12,7 @@ use sheet_record::Record;
 
 // The key of a line, in front of six bytes, how many bytes it has, and the least and the greatest number that the line may hold, which is the
 // greatest below the count of names where that is said.
-#[derive(Drop)]
+#[derive(Clone, Copy)]
 struct KeyLine {
     key: [u8; 6],
     size: usize,

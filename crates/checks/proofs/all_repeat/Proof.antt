@@ -3,10 +3,10 @@ use Rattle.checks.proofs.Items.{LeftOver, ending}
 use Rattle.checks.proofs.all_repeat.Statement.{statement}
 use Rattle.checks.proofs.all_repeat.Tie as tie
 
-abbrev invariant-loop : tie.invariant-loop
+abbrev invariant-loop : tie.invariant-loop-left
 invariant-loop left₀ left = LeftOver left₀ left
 
-abbrev decreases-loop : tie.decreases-loop
+abbrev decreases-loop : tie.decreases-loop-left
 decreases-loop left₀ left = left
 
 pub all_repeat_spec : {M : Type 1} → statement M

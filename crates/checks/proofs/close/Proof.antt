@@ -3,10 +3,10 @@ use Rattle.checks.proofs.Placing.{Closing, closing}
 use Rattle.checks.proofs.close.Statement.{statement}
 use Rattle.checks.proofs.close.Tie as tie
 
-abbrev invariant-loop : tie.invariant-loop
+abbrev invariant-loop : tie.invariant-loop-depth
 invariant-loop ends left own depth₀ row first₀ depth first = Closing ends left own row depth₀ first₀ depth first
 
-abbrev decreases-loop : tie.decreases-loop
+abbrev decreases-loop : tie.decreases-loop-depth
 decreases-loop ends left own depth₀ row first₀ depth first = depth
 
 pub close_spec : {M : Type 1} → statement M

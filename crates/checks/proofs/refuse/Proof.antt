@@ -6,10 +6,10 @@ use Rattle.checks.proofs.FieldLaws.{refusing}
 use Rattle.checks.proofs.refuse.Statement.{statement}
 use Rattle.checks.proofs.refuse.Tie as tie
 
-abbrev invariant-loop : tie.invariant-loop
+abbrev invariant-loop : tie.invariant-loop-i
 invariant-loop rows count names row deep entries i₀ i = Checking (fields_at rows names) count row i
 
-abbrev decreases-loop : tie.decreases-loop
+abbrev decreases-loop : tie.decreases-loop-i
 decreases-loop rows count names row deep entries i₀ i = count - i
 
 pub refuse_spec : {M : Type 1} → statement M

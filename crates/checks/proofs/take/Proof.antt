@@ -3,10 +3,10 @@ use Rattle.checks.proofs.Items.{Taking, taking}
 use Rattle.checks.proofs.take.Statement.{statement}
 use Rattle.checks.proofs.take.Tie as tie
 
-abbrev invariant-loop : tie.invariant-loop
+abbrev invariant-loop : tie.invariant-loop-i
 invariant-loop left₀ own i kind first items₀ left items = Taking left₀ i kind left items
 
-abbrev decreases-loop : tie.decreases-loop
+abbrev decreases-loop : tie.decreases-loop-i
 decreases-loop left₀ own i kind first items₀ left items = items
 
 pub take_spec : {M : Type 1} → statement M

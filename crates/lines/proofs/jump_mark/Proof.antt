@@ -7,9 +7,7 @@ pub jump_mark_spec : {M : Type 1} → statement M
 jump_mark_spec =
     tie.close
     (tie.spec
-    (λ c. search answers)
     (λ c κs. search rules)
-    (λ c. search answers)
     (λ c. search answers)
     (λ c κs. search rules)
     (λ c. search answers)

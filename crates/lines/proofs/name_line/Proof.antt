@@ -7,7 +7,6 @@ pub name_line_spec : {M : Type 1} → statement M
 name_line_spec =
     tie.close
     (tie.spec
-    (λ c. search answers)
     (λ c κs. search rules)
     (λ c. search answers)
     (λ c κs. search rules)

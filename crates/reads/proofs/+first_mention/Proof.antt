@@ -36,10 +36,10 @@ first-mention-below t =
     (falls 1 first-mention-kinds.ps ◌<◌ μ-first-mention t)
     first-mention.Pre
 
-abbrev first-mention-Inv-loop : first-mention-lts.invariant-loop
+abbrev first-mention-Inv-loop : first-mention-lts.invariant-loop-i
 first-mention-Inv-loop rows iff local from to i₀ i = (Nested rows i to) × (from ≤ i) × (mention_in iff local rows from to ≡ mention_in iff local rows i to)
 
-abbrev first-mention-μ-loop : first-mention-lts.decreases-loop
+abbrev first-mention-μ-loop : first-mention-lts.decreases-loop-i
 first-mention-μ-loop rows iff local from to i₀ i = to - i
 
 abbrev calls : ℕ → first-mention-lts.Claims

@@ -6,10 +6,10 @@ use Rattle.reads.proofs.Quiet.{quiet_loop}
 use Rattle.reads.proofs.after_quiet.Statement.{statement}
 use Rattle.reads.proofs.after_quiet.Tie as tie
 
-abbrev invariant-loop : tie.invariant-loop
+abbrev invariant-loop : tie.invariant-loop-next
 invariant-loop rows local i to next₀ next = AfterQuiet local rows i to next
 
-abbrev decreases-loop : tie.decreases-loop
+abbrev decreases-loop : tie.decreases-loop-next
 decreases-loop rows local i to next₀ next = to - next
 
 pub after_quiet_spec : {M : Type 1} → statement M

@@ -9,10 +9,10 @@ use Rattle.reads.proofs.Answers.{segments_answers}
 use Rattle.reads.proofs.segments.Statement.{statement}
 use Rattle.reads.proofs.segments.Tie as tie
 
-abbrev invariant-loop : tie.invariant-loop
+abbrev invariant-loop : tie.invariant-loop-i
 invariant-loop rows from to end i₀ counted₀ i counted = (Nested rows i end) × (counted ≤ i) × (counted + count (tree rows i end) ≡ segments (tree rows from to))
 
-abbrev decreases-loop : tie.decreases-loop
+abbrev decreases-loop : tie.decreases-loop-i
 decreases-loop rows from to end i₀ counted₀ i counted = end - i
 
 pub segments_spec : {M : Type 1} → statement M
