@@ -6,10 +6,10 @@ use Rattle.case_text.proofs.Blocks.{Blocking, blocks}
 use Rattle.case_text.proofs.as_blocks.Statement.{statement}
 use Rattle.case_text.proofs.as_blocks.Tie as tie
 
-abbrev invariant-loop : tie.invariant-loop
+abbrev invariant-loop : tie.invariant-loop-rows
 invariant-loop rows₀ at₀ rows at = Blocking rows₀ rows at
 
-abbrev decreases-loop : tie.decreases-loop
+abbrev decreases-loop : tie.decreases-loop-rows
 decreases-loop rows₀ at₀ rows at = length rows₀ - at
 
 pub as_blocks_spec : {M : Type 1} → statement M

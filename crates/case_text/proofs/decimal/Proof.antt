@@ -6,10 +6,10 @@ use Rattle.case_text.proofs.Numbers.{Reading, answers}
 use Rattle.case_text.proofs.decimal.Statement.{statement}
 use Rattle.case_text.proofs.decimal.Tie as tie
 
-abbrev invariant-loop : tie.invariant-loop
+abbrev invariant-loop : tie.invariant-loop-i
 invariant-loop text v₀ i₀ v i = Reading text i v
 
-abbrev decreases-loop : tie.decreases-loop
+abbrev decreases-loop : tie.decreases-loop-i
 decreases-loop text v₀ i₀ v i = length text - i
 
 pub decimal_spec : {M : Type 1} → statement M

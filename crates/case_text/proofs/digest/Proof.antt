@@ -6,10 +6,10 @@ use Rattle.case_text.proofs.Numbers.{Digesting, answers}
 use Rattle.case_text.proofs.digest.Statement.{statement}
 use Rattle.case_text.proofs.digest.Tie as tie
 
-abbrev invariant-loop : tie.invariant-loop
+abbrev invariant-loop : tie.invariant-loop-i
 invariant-loop numbers d₀ i₀ d i = Digesting numbers i d
 
-abbrev decreases-loop : tie.decreases-loop
+abbrev decreases-loop : tie.decreases-loop-i
 decreases-loop numbers d₀ i₀ d i = length numbers - i
 
 pub digest_spec : {M : Type 1} → statement M

@@ -6,10 +6,10 @@ use Rattle.case_text.proofs.Places.{Seeking, answers}
 use Rattle.case_text.proofs.find.Statement.{statement}
 use Rattle.case_text.proofs.find.Tie as tie
 
-abbrev invariant-loop : tie.invariant-loop
+abbrev invariant-loop : tie.invariant-loop-i
 invariant-loop text byte i₀ i = Seeking byte text i
 
-abbrev decreases-loop : tie.decreases-loop
+abbrev decreases-loop : tie.decreases-loop-i
 decreases-loop text byte i₀ i = length text - i
 
 pub find_spec : {M : Type 1} → statement M

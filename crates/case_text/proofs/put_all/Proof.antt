@@ -6,10 +6,10 @@ use Rattle.case_text.proofs.Puts.{Putting, answers}
 use Rattle.case_text.proofs.put_all.Statement.{statement}
 use Rattle.case_text.proofs.put_all.Tie as tie
 
-abbrev invariant-loop : tie.invariant-loop
+abbrev invariant-loop : tie.invariant-loop-i
 invariant-loop out₀ from text at₀ i₀ out at i = Putting out₀ from text out at i
 
-abbrev decreases-loop : tie.decreases-loop
+abbrev decreases-loop : tie.decreases-loop-i
 decreases-loop out₀ from text at₀ i₀ out at i = length text - i
 
 pub put_all_spec : {M : Type 1} → statement M

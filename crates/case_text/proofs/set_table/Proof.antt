@@ -6,10 +6,10 @@ use Rattle.case_text.proofs.Fills.{Filling, answers}
 use Rattle.case_text.proofs.set_table.Statement.{statement}
 use Rattle.case_text.proofs.set_table.Tie as tie
 
-abbrev invariant-loop : tie.invariant-loop
+abbrev invariant-loop : tie.invariant-loop-at
 invariant-loop table₀ text at₀ i₀ table at i = Filling table₀ text table at i
 
-abbrev decreases-loop : tie.decreases-loop
+abbrev decreases-loop : tie.decreases-loop-at
 decreases-loop table₀ text at₀ i₀ table at i = length text - at
 
 pub set_table_spec : {M : Type 1} → statement M
