@@ -18,7 +18,7 @@ use da_rows::{Context, Evaluated, States};
 use kinds::StmtClass;
 
 // The walk of the first of the rows from `from` up to `to`. Whether time can advance has been asked of a statement that holds it.
-#[cycle(da_arm_da_arms_da_block_da_branches_da_case_da_controlled_da_else_da_for_da_forever_da_if_da_inner_da_repeat_da_rounds_da_while)]
+#[cycle(walk)]
 fn da_inner(
     rows: &[u32],
     names: &[u32],
@@ -76,7 +76,7 @@ fn passes_over(rows: &[u32], from: usize, to: usize, assigned: bool) -> bool
 }
 
 // A delay, an event control or a wait in row i: what it asks, then its body.
-#[cycle(da_arm_da_arms_da_block_da_branches_da_case_da_controlled_da_else_da_for_da_forever_da_if_da_inner_da_repeat_da_rounds_da_while)]
+#[cycle(walk)]
 fn da_controlled(
     rows: &[u32],
     names: &[u32],
@@ -102,7 +102,7 @@ fn da_controlled(
 
 // The statements of a block, the rows from `from` up to `to`, each from where the one before it fell. Those that a written local stays
 // written in are passed over here, since they cost little but the call of da_inner, which asks the same.
-#[cycle(da_arm_da_arms_da_block_da_branches_da_case_da_controlled_da_else_da_for_da_forever_da_if_da_inner_da_repeat_da_rounds_da_while)]
+#[cycle(walk)]
 fn da_block(
     rows: &[u32],
     names: &[u32],
@@ -135,7 +135,7 @@ fn da_block(
 }
 
 // An if: the rows from `from` up to `to` are its condition and its arms.
-#[cycle(da_arm_da_arms_da_block_da_branches_da_case_da_controlled_da_else_da_for_da_forever_da_if_da_inner_da_repeat_da_rounds_da_while)]
+#[cycle(walk)]
 fn da_if(
     rows: &[u32],
     names: &[u32],
@@ -158,7 +158,7 @@ fn da_if(
 }
 
 // The arms of an if, the first two of the rows from `from` up to `to`, each from what its outcome of the condition writes.
-#[cycle(da_arm_da_arms_da_block_da_branches_da_case_da_controlled_da_else_da_for_da_forever_da_if_da_inner_da_repeat_da_rounds_da_while)]
+#[cycle(walk)]
 fn da_branches(
     rows: &[u32],
     names: &[u32],
@@ -192,7 +192,7 @@ fn da_branches(
 
 // The else of an if, the first of the rows from `from` up to `to`. Where it is absent, what holds is what every path has after the
 // condition.
-#[cycle(da_arm_da_arms_da_block_da_branches_da_case_da_controlled_da_else_da_for_da_forever_da_if_da_inner_da_repeat_da_rounds_da_while)]
+#[cycle(walk)]
 fn da_else(
     rows: &[u32],
     names: &[u32],
@@ -212,7 +212,7 @@ fn da_else(
 }
 
 // A case: the rows from `from` up to `to` are its scrutinee and its arms.
-#[cycle(da_arm_da_arms_da_block_da_branches_da_case_da_controlled_da_else_da_for_da_forever_da_if_da_inner_da_repeat_da_rounds_da_while)]
+#[cycle(walk)]
 fn da_case(
     rows: &[u32],
     names: &[u32],
@@ -235,7 +235,7 @@ fn da_case(
 }
 
 // The arms of a case, the rows from `from` up to `to`, each from the state after the scrutinee.
-#[cycle(da_arm_da_arms_da_block_da_branches_da_case_da_controlled_da_else_da_for_da_forever_da_if_da_inner_da_repeat_da_rounds_da_while)]
+#[cycle(walk)]
 fn da_arms(
     rows: &[u32],
     names: &[u32],
@@ -263,7 +263,7 @@ fn da_arms(
 }
 
 // An arm, the first of the rows from `from` up to `to`: its labels, then its statement.
-#[cycle(da_arm_da_arms_da_block_da_branches_da_case_da_controlled_da_else_da_for_da_forever_da_if_da_inner_da_repeat_da_rounds_da_while)]
+#[cycle(walk)]
 fn da_arm(
     rows: &[u32],
     names: &[u32],
@@ -284,7 +284,7 @@ fn da_arm(
 
 // The rounds of the loop in row `row`, which has no step: its body is the first of the rows from `body` up to `end`. Numbers and no struct:
 // each struct that is passed takes room on the stack of every loop within a loop.
-#[cycle(da_arm_da_arms_da_block_da_branches_da_case_da_controlled_da_else_da_for_da_forever_da_if_da_inner_da_repeat_da_rounds_da_while)]
+#[cycle(walk)]
 fn da_rounds(
     rows: &[u32],
     names: &[u32],
@@ -327,7 +327,7 @@ fn for_parts(rows: &[u32], i: usize, end: usize) -> ForParts
 
 // A for in row i: its init, then its condition, and rounds where that is true. Its step is walked after its body, from where the body
 // starts.
-#[cycle(da_arm_da_arms_da_block_da_branches_da_case_da_controlled_da_else_da_for_da_forever_da_if_da_inner_da_repeat_da_rounds_da_while)]
+#[cycle(walk)]
 fn da_for(
     rows: &[u32],
     names: &[u32],
@@ -362,7 +362,7 @@ fn da_for(
     }
 }
 
-#[cycle(da_arm_da_arms_da_block_da_branches_da_case_da_controlled_da_else_da_for_da_forever_da_if_da_inner_da_repeat_da_rounds_da_while)]
+#[cycle(walk)]
 fn da_while(
     rows: &[u32],
     names: &[u32],
@@ -392,7 +392,7 @@ fn da_while(
 }
 
 // A repeat: its count is evaluated once, and tells nothing of a round.
-#[cycle(da_arm_da_arms_da_block_da_branches_da_case_da_controlled_da_else_da_for_da_forever_da_if_da_inner_da_repeat_da_rounds_da_while)]
+#[cycle(walk)]
 fn da_repeat(
     rows: &[u32],
     names: &[u32],
@@ -421,7 +421,7 @@ fn da_repeat(
     }
 }
 
-#[cycle(da_arm_da_arms_da_block_da_branches_da_case_da_controlled_da_else_da_for_da_forever_da_if_da_inner_da_repeat_da_rounds_da_while)]
+#[cycle(walk)]
 fn da_forever(
     rows: &[u32],
     names: &[u32],

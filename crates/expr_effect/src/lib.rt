@@ -66,7 +66,7 @@ fn whole(rows: &[u32], local: usize, form: Form, from: usize, to: usize) -> RowE
 
 // The effect of the first of the rows from `from` up to `to`, and what its operands write. The operands are asked for effect
 // and writing at once, by `expr_writes_when`, which asks this function for the effect of the same row.
-#[cycle(expr_da_expr_writes_when)]
+#[cycle(effect)]
 pub fn expr_da(rows: &[u32], local: usize, from: usize, to: usize) -> RowEffect
     requires { Nested rows.now from to }
     ensures value { result ≡ unguarded local (tree rows.now from to) }
@@ -93,7 +93,7 @@ pub fn expr_da(rows: &[u32], local: usize, from: usize, to: usize) -> RowEffect
 
 // The effect of the first of the rows from `from` up to `to`, and whether the local is written once its value is true, and
 // once it is false.
-#[cycle(expr_da_expr_writes_when)]
+#[cycle(effect)]
 pub fn expr_writes_when(rows: &[u32], local: usize, from: usize, to: usize) -> ExprEffect
     requires { Nested rows.now from to }
     ensures value { result ≡ expr_effect_of local (tree rows.now from to) 0 }

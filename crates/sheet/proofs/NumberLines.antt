@@ -20,7 +20,7 @@ use Rattle.sheet.specs.declared.header.Head.TheVariants as H
 use Rattle.sheet.specs.declared.header.Facts.TheVariants as F
 use Rattle.sheet.specs.declared.sections.Section.{Section}
 use Rattle.sheet.specs.declared.sections.Section.TheVariants as S
-use Rattle.sheet.specs.Header.{Greatest, at_most, below_names, greatest, HeaderLine, head_lines, fact_lines, record_by, first_fact}
+use Rattle.sheet.specs.Header.{Greatest, at_most, below_the_names, greatest, HeaderLine, head_lines, fact_lines, record_by, first_fact}
 use Rattle.sheet.specs.Sections.{Lines, read, refused, right_line, wrong_line, prepend, after_line, lines_from, of_number, number_step, head_from, facts_from}
 use Rattle.sheet.specs.Steps.{given_greatest, is_below_names, key_line, KeyHeld, greatest_by, KeyRead, header_from, section_of, Filled, head_of, facts_of}
 use Rattle.sheet.proofs.Going.{put_all, never, section_read, section_refused, Going, going_start, going_done, going_filled, going_wrong, wrong_filled, going_next}
@@ -54,7 +54,7 @@ greatest_told l names = go l.high
   where
     go : (g : Greatest) → cond (is_below_names g) (names - 1) (given_greatest g) ≡ greatest g names
     go (at_most n) = refl
-    go below_names = refl
+    go below_the_names = refl
 
 pub key_told : (line : KeyLine) (names : ℕ) (s : List ℕ) (at high : ℕ) (r : NumberLine) → high ≡ greatest_by line names → r ≡ number_line (take (line.size - 0) (drop 0 line.key)) line.low high s at → KeyRead line names s at r
 key_told line names s at high r h e = record { told = λ l q. e ∙ rw (h, q, key_front l, greatest_told l names, low_told l) }

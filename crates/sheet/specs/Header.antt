@@ -8,11 +8,11 @@ use Rattle.sheet_record.specs.declared.Record.{Record}
 -- the greatest number that a line may hold: one that is given, or the greatest that is "below names"
 pub data Greatest : Type 0 where
   at_most : ℕ → Greatest
-  below_names : Greatest
+  below_the_names : Greatest
 
 abbrev pub greatest : Greatest → ℕ → ℕ
 greatest (at_most n) names = n
-greatest below_names names = names - 1
+greatest below_the_names names = names - 1
 
 -- a line with its key, the least and the greatest number that it may hold, and the number of a record that it tells
 pub record HeaderLine : Type 0 where
@@ -31,7 +31,7 @@ head_lines = line "sheet=" 1 (at_most 1) (λ r. 1) ∷ line "names=" 1 (at_most 
 -- "`local=`, `start=`, `sole=`, `rows=`": those after the names; "local not below names, start or sole above 1, rows outside 1..2,000"
 abbrev pub fact_lines : List HeaderLine
 fact_lines =
-    line "local=" 0 below_names (λ r. r.local) ∷
+    line "local=" 0 below_the_names (λ r. r.local) ∷
     line "start=" 0 (at_most 1) (λ r. r.start) ∷
     line "sole=" 0 (at_most 1) (λ r. r.sole) ∷
     line "rows=" 1 (at_most 2000) (λ r. r.rows) ∷

@@ -15,18 +15,18 @@ use Rattle.sheet.specs.declared.header.Facts.{Facts}
 use Rattle.sheet.specs.declared.header.Facts.TheVariants as F
 use Rattle.sheet.specs.declared.sections.Section.{Section}
 use Rattle.sheet.specs.declared.sections.Section.TheVariants as S
-use Rattle.sheet.specs.Header.{Greatest, at_most, below-names, greatest, HeaderLine, head_lines, fact_lines, record_by}
+use Rattle.sheet.specs.Header.{Greatest, at_most, below_the_names, greatest, HeaderLine, head_lines, fact_lines, record_by}
 use Rattle.sheet.specs.Sections.{Lines, read, refused}
 use Rattle.sheet.specs.Load.{Before, before, stopped, before_rows, Parsed, parsed, wrong, lines_of, Result, finish_of}
 
 -- a line of the header as the code has it: the key in front of six bytes, and its greatest number or that it is below names
 abbrev pub given_greatest : Greatest → ℕ
 given_greatest (at_most n) = n
-given_greatest below-names = 0
+given_greatest below_the_names = 0
 
 abbrev pub is_below_names : Greatest → Bool
 is_below_names (at_most n) = false
-is_below_names below-names = true
+is_below_names below_the_names = true
 
 unfoldable pub key_line : HeaderLine → KeyLine
 key_line l = record {

@@ -639,9 +639,9 @@ unfolding fold evaluation_at held_evaluations_at execution_at expr_class stmt_cl
 joint_others = refl
 
 -- no execution looks at a span
-pub span_unused : (sem : Semantics) (local : ℕ) (jumps : ℕ → Bool) (k s lo hi : ℕ) (cs : Forest) (rs : List Execution) → execution_at sem local jumps k s lo hi cs rs ≡ execution_at sem local jumps k s 0 0 cs rs
+pub span_unused : (sem : Semantics) (local : ℕ) (marks : ℕ → Bool) (k s lo hi : ℕ) (cs : Forest) (rs : List Execution) → execution_at sem local marks k s lo hi cs rs ≡ execution_at sem local marks k s 0 0 cs rs
 unfolding execution_at
-span_unused sem local jumps k s lo hi cs rs = refl
+span_unused sem local marks k s lo hi cs rs = refl
 
 -- The premises: the first row at which one fails
 

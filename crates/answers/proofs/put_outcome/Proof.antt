@@ -11,7 +11,6 @@ put_outcome_spec =
     (tie.spec
     (λ c κs. search rules)
     (λ c κs. search rules)
-    (λ c. search rules)
     (λ c κs. field_fits _ _ _ _ _ (omega arith))
     (λ c. search rules)
     (λ c. (search answers, search rules)))

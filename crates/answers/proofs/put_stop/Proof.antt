@@ -11,11 +11,8 @@ unfolding stop_text
 put_stop_spec =
     tie.close
     (tie.spec
-    (λ c. search rules)
     (λ c κs. field_fits _ _ _ _ _ (omega arith))
-    (λ c. search rules)
     (λ c κs. field_fits _ _ _ _ _ (omega arith))
-    (λ c. search rules)
     (λ c κs. field_fits _ _ _ _ _ (omega arith))
     (λ c. search rules)
     (λ c. (search put_then, search rules)))

@@ -9,10 +9,10 @@ use Rattle.da_rows.proofs.Asking.{unread}
 use Rattle.da_rows.proofs.unless_one_read.Statement.{statement}
 use Rattle.da_rows.proofs.unless_one_read.Tie as tie
 
-abbrev invariant-loop : tie.invariant-loop
+abbrev invariant-loop : tie.invariant-loop-child
 invariant-loop rows local from to assigned child₀ child = Goes rows from to child (unless_one_read (facts_in local rows from to) assigned (Ok (Falls assigned))) (unless_one_read (facts_in local rows child to) assigned (Ok (Falls assigned)))
 
-abbrev decreases-loop : tie.decreases-loop
+abbrev decreases-loop : tie.decreases-loop-child
 decreases-loop rows local from to assigned child₀ child = to - child
 
 pub unless_one_read_spec : {M : Type 1} → statement M

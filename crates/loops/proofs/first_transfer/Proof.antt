@@ -8,10 +8,10 @@ use Rattle.loops.proofs.Answers.{next_nested, scan_answers, scan_misses}
 use Rattle.loops.proofs.first_transfer.Statement.{statement}
 use Rattle.loops.proofs.first_transfer.Tie as tie
 
-abbrev invariant-loop : tie.invariant-loop
+abbrev invariant-loop : tie.invariant-loop-i
 invariant-loop rows from to i₀ i = Nested rows i to × (cannot_escape (tree rows from to) ≡ cannot_escape (tree rows i to))
 
-abbrev decreases-loop : tie.decreases-loop
+abbrev decreases-loop : tie.decreases-loop-i
 decreases-loop rows from to i₀ i = to - i
 
 pub first_transfer_spec : {M : Type 1} → statement M

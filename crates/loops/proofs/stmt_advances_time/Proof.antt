@@ -8,10 +8,10 @@ use Rattle.loops.proofs.Answers.{next_nested, scan_answers, scan_misses, time_to
 use Rattle.loops.proofs.stmt_advances_time.Statement.{statement}
 use Rattle.loops.proofs.stmt_advances_time.Tie as tie
 
-abbrev invariant-loop : tie.invariant-loop
+abbrev invariant-loop : tie.invariant-loop-i
 invariant-loop rows from to i₀ i = Nested rows i to × (advances_time (tree rows from to) ≡ advances_time (tree rows i to))
 
-abbrev decreases-loop : tie.decreases-loop
+abbrev decreases-loop : tie.decreases-loop-i
 decreases-loop rows from to i₀ i = to - i
 
 pub stmt_advances_time_spec : {M : Type 1} → statement M

@@ -3,10 +3,10 @@ use Rattle.sheet.proofs.NameLines.{NameLoop, answers}
 use Rattle.sheet.proofs.sections.names_from.Statement.{statement}
 use Rattle.sheet.proofs.sections.names_from.Tie as tie
 
-abbrev invariant-loop : tie.invariant-loop
+abbrev invariant-loop : tie.invariant-loop-left
 invariant-loop s from count names₀ at₀ left₀ line₀ w₀ before₀ before-end₀ names at left line w before before-end = NameLoop s from count names₀ names at left line w before before-end
 
-abbrev decreases-loop : tie.decreases-loop
+abbrev decreases-loop : tie.decreases-loop-left
 decreases-loop s from count names₀ at₀ left₀ line₀ w₀ before₀ before-end₀ names at left line w before before-end = left
 
 pub names_from_spec : {M : Type 1} → statement M

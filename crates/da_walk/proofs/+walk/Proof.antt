@@ -15,46 +15,46 @@ use borrow.Fn.Kinds.{In}
 use borrow.Fn.PlainCycle.{Measures, is, falls, and}
 use Rattle.da_walk.proofs.da_arm.Reads as da-arm
 use Rattle.da_walk.proofs.da_arm.Kinds as da-arm-kinds
-use Rattle.da_walk.proofs.+da_arm_da_arms_da_block_da_branches_da_case_da_controlled_da_else_da_for_da_forever_da_if_da_inner_da_repeat_da_rounds_da_while.Lts-da_arm as da-arm-lts
+use Rattle.da_walk.proofs.+walk.Lts-da_arm as da-arm-lts
 use Rattle.da_walk.proofs.da_arms.Reads as da-arms
 use Rattle.da_walk.proofs.da_arms.Kinds as da-arms-kinds
-use Rattle.da_walk.proofs.+da_arm_da_arms_da_block_da_branches_da_case_da_controlled_da_else_da_for_da_forever_da_if_da_inner_da_repeat_da_rounds_da_while.Lts-da_arms as da-arms-lts
+use Rattle.da_walk.proofs.+walk.Lts-da_arms as da-arms-lts
 use Rattle.da_walk.proofs.da_block.Reads as da-block
 use Rattle.da_walk.proofs.da_block.Kinds as da-block-kinds
-use Rattle.da_walk.proofs.+da_arm_da_arms_da_block_da_branches_da_case_da_controlled_da_else_da_for_da_forever_da_if_da_inner_da_repeat_da_rounds_da_while.Lts-da_block as da-block-lts
+use Rattle.da_walk.proofs.+walk.Lts-da_block as da-block-lts
 use Rattle.da_walk.proofs.da_branches.Reads as da-branches
 use Rattle.da_walk.proofs.da_branches.Kinds as da-branches-kinds
-use Rattle.da_walk.proofs.+da_arm_da_arms_da_block_da_branches_da_case_da_controlled_da_else_da_for_da_forever_da_if_da_inner_da_repeat_da_rounds_da_while.Lts-da_branches as da-branches-lts
+use Rattle.da_walk.proofs.+walk.Lts-da_branches as da-branches-lts
 use Rattle.da_walk.proofs.da_case.Reads as da-case
 use Rattle.da_walk.proofs.da_case.Kinds as da-case-kinds
-use Rattle.da_walk.proofs.+da_arm_da_arms_da_block_da_branches_da_case_da_controlled_da_else_da_for_da_forever_da_if_da_inner_da_repeat_da_rounds_da_while.Lts-da_case as da-case-lts
+use Rattle.da_walk.proofs.+walk.Lts-da_case as da-case-lts
 use Rattle.da_walk.proofs.da_controlled.Reads as da-controlled
 use Rattle.da_walk.proofs.da_controlled.Kinds as da-controlled-kinds
-use Rattle.da_walk.proofs.+da_arm_da_arms_da_block_da_branches_da_case_da_controlled_da_else_da_for_da_forever_da_if_da_inner_da_repeat_da_rounds_da_while.Lts-da_controlled as da-controlled-lts
+use Rattle.da_walk.proofs.+walk.Lts-da_controlled as da-controlled-lts
 use Rattle.da_walk.proofs.da_else.Reads as da-else
 use Rattle.da_walk.proofs.da_else.Kinds as da-else-kinds
-use Rattle.da_walk.proofs.+da_arm_da_arms_da_block_da_branches_da_case_da_controlled_da_else_da_for_da_forever_da_if_da_inner_da_repeat_da_rounds_da_while.Lts-da_else as da-else-lts
+use Rattle.da_walk.proofs.+walk.Lts-da_else as da-else-lts
 use Rattle.da_walk.proofs.da_for.Reads as da-for
 use Rattle.da_walk.proofs.da_for.Kinds as da-for-kinds
-use Rattle.da_walk.proofs.+da_arm_da_arms_da_block_da_branches_da_case_da_controlled_da_else_da_for_da_forever_da_if_da_inner_da_repeat_da_rounds_da_while.Lts-da_for as da-for-lts
+use Rattle.da_walk.proofs.+walk.Lts-da_for as da-for-lts
 use Rattle.da_walk.proofs.da_forever.Reads as da-forever
 use Rattle.da_walk.proofs.da_forever.Kinds as da-forever-kinds
-use Rattle.da_walk.proofs.+da_arm_da_arms_da_block_da_branches_da_case_da_controlled_da_else_da_for_da_forever_da_if_da_inner_da_repeat_da_rounds_da_while.Lts-da_forever as da-forever-lts
+use Rattle.da_walk.proofs.+walk.Lts-da_forever as da-forever-lts
 use Rattle.da_walk.proofs.da_if.Reads as da-if
 use Rattle.da_walk.proofs.da_if.Kinds as da-if-kinds
-use Rattle.da_walk.proofs.+da_arm_da_arms_da_block_da_branches_da_case_da_controlled_da_else_da_for_da_forever_da_if_da_inner_da_repeat_da_rounds_da_while.Lts-da_if as da-if-lts
+use Rattle.da_walk.proofs.+walk.Lts-da_if as da-if-lts
 use Rattle.da_walk.proofs.da_inner.Reads as da-inner
 use Rattle.da_walk.proofs.da_inner.Kinds as da-inner-kinds
-use Rattle.da_walk.proofs.+da_arm_da_arms_da_block_da_branches_da_case_da_controlled_da_else_da_for_da_forever_da_if_da_inner_da_repeat_da_rounds_da_while.Lts-da_inner as da-inner-lts
+use Rattle.da_walk.proofs.+walk.Lts-da_inner as da-inner-lts
 use Rattle.da_walk.proofs.da_repeat.Reads as da-repeat
 use Rattle.da_walk.proofs.da_repeat.Kinds as da-repeat-kinds
-use Rattle.da_walk.proofs.+da_arm_da_arms_da_block_da_branches_da_case_da_controlled_da_else_da_for_da_forever_da_if_da_inner_da_repeat_da_rounds_da_while.Lts-da_repeat as da-repeat-lts
+use Rattle.da_walk.proofs.+walk.Lts-da_repeat as da-repeat-lts
 use Rattle.da_walk.proofs.da_rounds.Reads as da-rounds
 use Rattle.da_walk.proofs.da_rounds.Kinds as da-rounds-kinds
-use Rattle.da_walk.proofs.+da_arm_da_arms_da_block_da_branches_da_case_da_controlled_da_else_da_for_da_forever_da_if_da_inner_da_repeat_da_rounds_da_while.Lts-da_rounds as da-rounds-lts
+use Rattle.da_walk.proofs.+walk.Lts-da_rounds as da-rounds-lts
 use Rattle.da_walk.proofs.da_while.Reads as da-while
 use Rattle.da_walk.proofs.da_while.Kinds as da-while-kinds
-use Rattle.da_walk.proofs.+da_arm_da_arms_da_block_da_branches_da_case_da_controlled_da_else_da_for_da_forever_da_if_da_inner_da_repeat_da_rounds_da_while.Lts-da_while as da-while-lts
+use Rattle.da_walk.proofs.+walk.Lts-da_while as da-while-lts
 use Rattle.da.proofs.merge.Reads as merge-reads
 use Rattle.da.proofs.state.Reads as state-reads
 use Rattle.da_leaf.proofs.construct_from.Reads as construct-from-reads
@@ -73,10 +73,10 @@ use Rattle.da_walk.proofs.passes_over.Reads as passes-over-reads
 use Rattle.table.proofs.kind_at.Reads as kind-at-reads
 use Rattle.table.proofs.next_at.Reads as next-at-reads
 use Rattle.table.proofs.row_end.Reads as row-end-reads
-use Rattle.da_walk.proofs.+da_arm_da_arms_da_block_da_branches_da_case_da_controlled_da_else_da_for_da_forever_da_if_da_inner_da_repeat_da_rounds_da_while.{
+use Rattle.da_walk.proofs.+walk.{
   statement,
 }
-use Rattle.da_walk.proofs.+da_arm_da_arms_da_block_da_branches_da_case_da_controlled_da_else_da_for_da_forever_da_if_da_inner_da_repeat_da_rounds_da_while.Tie.{
+use Rattle.da_walk.proofs.+walk.Tie.{
   close,
 }
 
@@ -224,19 +224,19 @@ da-while-below t =
 abbrev da-arm-calls : ℕ → da-arm-lts.Claims
 da-arm-calls t = (unless-label-read-reads.Asked, unless-label-read-reads.Learnt, da-inner-below t, da-inner.Post)
 
-abbrev da-arms-Inv-loop : da-arms-lts.invariant-loop
+abbrev da-arms-Inv-loop : da-arms-lts.invariant-loop-item
 da-arms-Inv-loop rows names ctx from to after item₀ all₀ has-default₀ item all has-default = Goes rows from to item (arms_in (untimed ctx names) rows from to after) (arms_from all has-default (walks_in (untimed ctx names) rows item to) after)
 
-abbrev da-arms-μ-loop : da-arms-lts.decreases-loop
+abbrev da-arms-μ-loop : da-arms-lts.decreases-loop-item
 da-arms-μ-loop rows names ctx from to after item₀ all₀ has-default₀ item all has-default = to - item
 
 abbrev da-arms-calls : ℕ → da-arms-lts.Claims
 da-arms-calls t = (da-arm-below t, da-arm.Post, merge-reads.Asked, merge-reads.Learnt, is-default-reads.Asked, is-default-reads.Learnt, gains-reads.Asked, gains-reads.Learnt, row-end-reads.Asked, row-end-reads.Learnt, case-out-reads.Asked, case-out-reads.Learnt)
 
-abbrev da-block-Inv-loop : da-block-lts.invariant-loop
+abbrev da-block-Inv-loop : da-block-lts.invariant-loop-child
 da-block-Inv-loop rows names ctx from to assigned child₀ a₀ child a = Goes rows from to child (block_in (untimed ctx names) rows from to assigned) (block_in (untimed ctx names) rows child to a)
 
-abbrev da-block-μ-loop : da-block-lts.decreases-loop
+abbrev da-block-μ-loop : da-block-lts.decreases-loop-child
 da-block-μ-loop rows names ctx from to assigned child₀ a₀ child a = to - child
 
 abbrev da-block-calls : ℕ → da-block-lts.Claims
@@ -275,9 +275,9 @@ da-rounds-calls t = (da-inner-below t, da-inner.Post, rounds-write-reads.Asked, 
 abbrev da-while-calls : ℕ → da-while-lts.Claims
 da-while-calls t = (next-at-reads.Asked, next-at-reads.Learnt, evaluate_reads.Asked, evaluate_reads.Learnt, da-rounds-below t, da-rounds.Post)
 
-pub +da_arm_da_arms_da_block_da_branches_da_case_da_controlled_da_else_da_for_da_forever_da_if_da_inner_da_repeat_da_rounds_da_while_spec :
+pub +walk_spec :
     {M : Type 1} → statement M
-+da_arm_da_arms_da_block_da_branches_da_case_da_controlled_da_else_da_for_da_forever_da_if_da_inner_da_repeat_da_rounds_da_while_spec =
++walk_spec =
     close
     μ-da-arm
     μ-da-arms
@@ -403,13 +403,13 @@ pub +da_arm_da_arms_da_block_da_branches_da_case_da_controlled_da_else_da_for_da
     (λ c. search rules)
     (λ c. search rules)
     (λ c. search looping)
-    (λ c κs. search (rules, c.before.before.before.before.before.before.before.before.before.before.before.before.before.before.before.before.requires, c.before.before.before.before.before.before.before.before.before.for-parts.ensures))
+    (λ c κs. search (rules, c.requires, c.for-parts.ensures))
     (λ c. search rules)
     (λ c. search rules)
-    (λ c. search (for_step, c.before.before.before.before.before.before.before.before.before.before.before.before.before.before.before.before.before.before.before.requires, c.before.before.before.before.before.before.before.before.before.before.before.before.before.before.before.before.da-inner.ensures, c.before.before.before.before.before.before.before.before.before.before.before.before.before.before.r.given, c.before.before.before.before.before.before.before.before.before.before.before.before.before.known-told.given, c.before.before.before.before.before.before.before.before.before.before.before.before.for-parts.ensures, c.before.before.before.before.before.before.before.before.before.before.before.state.ensures, c.before.before.before.before.before.before.before.before.before.before.evaluate.ensures, c.before.before.before.before.before.before.before.before.e2.given, c.before.before.before.before.before.before.da-inner2.ensures, c.before.before.before.before.q.given, c.before.before.da-inner3.ensures, c.enum-told3.given))
-    (λ c κs. search (rules, c.before.before.before.before.before.before.before.before.before.before.before.before.before.for-parts.ensures))
+    (λ c. search (for_step, c.requires, c.da-inner.ensures, c.r-1.given, c.known-told.given, c.for-parts.ensures, c.state.ensures, c.evaluate-e.ensures, c.e-in-To-1.given, c.da-inner2.ensures, c.q-1.given, c.da-inner3.ensures, c.enum-told3.given))
+    (λ c κs. search (rules, c.for-parts.ensures))
     (λ c. search looping)
-    (λ c. for_falls _ _ _ _ _ _ c.before.before.before.before.before.before.before.before.before.before.before.before.before.before.before.before.before.before.da-inner.ensures _ _ _ c.before.before.before.before.before.before.before.before.before.before.before.before.before.before.before.before.r.given.1 c.before.before.before.before.before.before.before.before.before.before.before.before.before.state.ensures c.before.before.before.before.before.before.before.before.before.before.before.before.before.before.before.before.before.before.before.before.before.requires.1 c.before.before.before.before.before.before.before.before.before.before.before.before.before.before.for-parts.ensures _ c.before.before.before.before.before.before.before.before.before.before.before.before.evaluate.ensures _ _ c.before.before.before.before.before.before.before.before.before.before.e2.given.1 c.before.before.before.before.before.before.before.before.da-inner2.ensures _ _ c.before.before.before.before.before.before.q.given.1 c.before.before.before.before.da-inner3.ensures _ _ c.before.before.s.given.1 c.rounds-write.ensures))
+    (λ c. for_falls _ _ _ _ _ _ c.da-inner.ensures _ _ _ c.r-1.given.1 c.state.ensures c.requires.1 c.for-parts.ensures _ c.evaluate-e.ensures _ _ c.e-in-To-1.given.1 c.da-inner2.ensures _ _ c.q-1.given.1 c.da-inner3.ensures _ _ c.s-1.given.1 c.rounds-write.ensures))
     (λ t. da-forever-lts.spec (da-forever-calls t)
     (da-forever-at t)
     da-forever.Post

@@ -9,17 +9,17 @@ use borrow.Fn.Kinds.{In}
 use borrow.Fn.PlainCycle.{Measures, is, falls, and}
 use Rattle.expr_effect.proofs.expr_da.Reads as expr-da
 use Rattle.expr_effect.proofs.expr_da.Kinds as expr-da-kinds
-use Rattle.expr_effect.proofs.+expr_da_expr_writes_when.Lts-expr_da as expr-da-lts
+use Rattle.expr_effect.proofs.+effect.Lts-expr_da as expr-da-lts
 use Rattle.expr_effect.proofs.expr_writes_when.Reads as expr-writes-when
 use Rattle.expr_effect.proofs.expr_writes_when.Kinds as expr-writes-when-kinds
-use Rattle.expr_effect.proofs.+expr_da_expr_writes_when.Lts-expr_writes_when as expr-writes-when-lts
+use Rattle.expr_effect.proofs.+effect.Lts-expr_writes_when as expr-writes-when-lts
 use Rattle.expr_effect.proofs.row_effect.combine.Reads as combine-reads
 use Rattle.expr_effect.proofs.row_effect.guard.Reads as guard_reads
 use Rattle.expr_effect.proofs.row_effect.is_whole.Reads as is-whole-reads
 use Rattle.expr_effect.proofs.operands_of.Reads as operands-of-reads
 use Rattle.expr_effect.proofs.whole.Reads as whole-reads
-use Rattle.expr_effect.proofs.+expr_da_expr_writes_when.{statement}
-use Rattle.expr_effect.proofs.+expr_da_expr_writes_when.Tie.{close}
+use Rattle.expr_effect.proofs.+effect.{statement}
+use Rattle.expr_effect.proofs.+effect.Tie.{close}
 
 abbrev μ-expr-da : Measures 1 expr-da-kinds.ps ℕ
 μ-expr-da κs a = 2 * (a.1.1.1.0 - a.1.1.0)
@@ -56,8 +56,8 @@ da-calls t = (operands-of-reads.Asked, operands-of-reads.Learnt, is-whole-reads.
 abbrev when-calls : ℕ → expr-writes-when-lts.Claims
 when-calls t = (expr-da-below t, expr-da.Post, guard_reads.Asked, guard_reads.Learnt)
 
-pub +expr_da_expr_writes_when_spec : {M : Type 1} → statement M
-+expr_da_expr_writes_when_spec = close μ-expr-da μ-expr-writes-when (λ t. expr-da-lts.spec (da-calls t)
+pub +effect_spec : {M : Type 1} → statement M
++effect_spec = close μ-expr-da μ-expr-writes-when (λ t. expr-da-lts.spec (da-calls t)
     (expr-da-at t)
     expr-da.Post
     (λ c. (search answers, search none_told))
