@@ -18,11 +18,11 @@ need() {
 find_archive() {
     if [ -z "${DA_ARCHIVE:-}" ]; then
         need rt
-        (cd .. && rt staticlib capi) > target/rt.log 2>&1 || { cat target/rt.log; exit 1; }
-        DA_ARCHIVE=../target/staticlib
+        (cd ../crates/capi && rt lib) > target/rt.log 2>&1 || { cat target/rt.log; exit 1; }
+        DA_ARCHIVE=../crates/capi/out
     fi
     archive=$DA_ARCHIVE/libcapi.a
-    [ -f "$archive" ] || { echo "no $archive: \`rt staticlib capi\` makes it"; exit 2; }
+    [ -f "$archive" ] || { echo "no $archive: \`rt lib\` in crates/capi makes it"; exit 2; }
 }
 
 build_oracle() {

@@ -1,6 +1,5 @@
 -- Tables for 2,000 rows and 500 names are too short for no sheet: 21 says that one of them has fewer numbers than that.
 use Prim.Native.Nat.{ℕ, ◌≤◌}
-use mathlib.Core.Path.{◌≡◌, refl}
 use native.Mathlib.Omega.{arith}
 use Rattle.load.proofs.Refusals.{TooShort, few_rows, few_names, no_room_short}
 use Rattle.capi.specs.Numbers.{most_row_numbers, most_name_numbers, RoomFor}

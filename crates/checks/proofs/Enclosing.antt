@@ -79,7 +79,7 @@ module _ (rows : List ℕ) (i : ℕ) where
   unfolding enclosing ends_before above
   with_above =
       let next : above (suc i) (end_at rows i ∷ enclosing rows i) ≡ enclosing rows (suc i) =
-          ap (λ es. cond (ltb (suc i) (end_at rows i)) (end_at rows i ∷ es) es) (above_above i (suc i) (omega arith) (ends_before rows i)) in
+      ap (λ es. cond (ltb (suc i) (end_at rows i)) (end_at rows i ∷ es) es) (above_above i (suc i) (omega arith) (ends_before rows i)) in
       subst (λ n. above n (end_at rows i ∷ enclosing rows i) ≡ enclosing rows n) (sym (native.Mathlib.Numerals.add-one i)) next
 
   pub enclosing_same : end_at rows i ≤ i + 1 → above (i + 1) (enclosing rows i) ≡ enclosing rows (i + 1)

@@ -1,6 +1,6 @@
 -- da_stmt: da/mod.rs and loop_body_assigns of da/loops.rs, followed line by line, a row at a time. Definitions only. The nine reasons
 -- have document 01's numbers, and "2 carries the expression's span, the others the statement's".
-use Rattle.std.specs.Prelude.{List, [], ◌∷◌, Bool, true, false, cond, ◌&&◌, ◌||◌, not, ℕ, eqb}
+use Rattle.std.specs.Prelude.{List, [], ◌∷◌, Bool, true, false, cond, ◌&&◌, not, ℕ, eqb}
 use Rattle.table.specs.Rows.{Forest, nil, node}
 use Rattle.table.specs.Fold.{Alg, fold, nth, tail}
 use Rattle.kinds.specs.declared.StmtClass.{StmtClass}

@@ -28,7 +28,7 @@ use Rattle.da.specs.declared.DaResult.TheVariants.{Ok}
 use Rattle.da.specs.Outcome.{State}
 use Rattle.da.specs.Walk.{DaCtx, Walk, StmtRow, no_walk, unless_one_read, falls_written, walk_of, walk_at, walks}
 use Rattle.da_rows.specs.declared.Part.{Part}
-use Rattle.da_rows.specs.declared.Part.TheVariants.{Match, Default, Absent, Statement}
+use Rattle.da_rows.specs.declared.Part.TheVariants.{Statement}
 use Rattle.da_rows.specs.Steps.{facts_in, part_of_class, part_of_row, part_in, is_default_part, is_absent_part, labels_of, labels_in, case_out, body_assigns}
 
 -- part_of_class: the tags of the classes that are statements, after the first

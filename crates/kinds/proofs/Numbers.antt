@@ -1,8 +1,8 @@
 -- The numbers of the table say what its entries say: side numbers, classes, items. What is said of a class is a test computed over the table; what is
 -- said of items is how their number divides.
 use Prim.Native.Nat.{ℕ, zero, suc, ◌+◌, ◌*◌, ◌/◌, ◌%◌, ◌≤◌, ◌<◌}
-use mathlib.Core.Path.{◌≡◌, refl, sym, ap, ◌∙◌}
-use mathlib.Core.Bool.{or-true, or-false, and-true, Bool, true, false, cond, ◌&&◌, beq, and-false}
+use mathlib.Core.Path.{◌≡◌, refl, sym, ◌∙◌}
+use mathlib.Core.Bool.{or-true, or-false, and-true, Bool, true, false, ◌&&◌, beq, and-false}
 use mathlib.Core.List.{List, [], ◌∷◌, map}
 use native.Mathlib.Nat.{pos_of_ne-zero}
 use native.Mathlib.Omega.{arith}

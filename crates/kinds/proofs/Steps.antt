@@ -1,6 +1,6 @@
 -- Children against the number of a kind's items, as code meets them: one child, and the first item of what is left. `Left` says that the children to
 -- come fit the items left exactly where all fit, and each step keeps it. The number of the items falls, or the children left.
-use Prim.Native.Nat.{ℕ, ◌%◌, ◌≤◌, ◌<◌}
+use Prim.Native.Nat.{ℕ, ◌%◌, ◌<◌}
 use mathlib.Core.Path.{◌≡◌, refl, sym, ◌∙◌}
 use mathlib.Core.Bool.{Bool, true, false, cond}
 use mathlib.Core.List.{List, [], ◌∷◌}

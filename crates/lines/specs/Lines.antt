@@ -7,7 +7,6 @@ use Rattle.kinds.specs.declared.Found.{Found}
 use Rattle.kinds.specs.declared.Found.TheVariants.{Is, Unknown}
 use Rattle.text.specs.Fields.{field, ends_by, after, starts_with, below, all_graphic}
 use Rattle.text.specs.Numbers.{Spelled, is, none, number_of}
-use Rattle.refusals.specs.declared.Refusal.{Refusal}
 use Rattle.refusals.specs.declared.Refusal.TheVariants.{WrongLine, WrongNumber, OutOfRange, WrongName, UnknownKind, WrongSide}
 use Rattle.lines.specs.declared.NumberLine.{NumberLine}
 use Rattle.lines.specs.declared.NumberLine.TheVariants as N

@@ -10,19 +10,19 @@ use lib.ListN.{length, take, get_or, replicate, length-append, length-replicate,
 use lib.Seq.{take_at}
 use borrow.Author.Tests.{leb-true, le-leb, ltb-true, ltb-false, lt-ltb}
 use Rattle.kinds.specs.Kinds.{bytes}
-use Rattle.table.specs.Rows.{kind_at, tree, Nested}
+use Rattle.table.specs.Rows.{tree, Nested}
 use Rattle.table.proofs.Same.{tree_front}
 use Rattle.checks.specs.declared.Checked.{Checked}
 use Rattle.checks.specs.declared.Checked.TheVariants as C
 use Rattle.checks.specs.Checks.{fields_of, ends_of, children_of}
 use Rattle.checks.proofs.Same.{children_same}
 use Rattle.checks.proofs.Rows.{both_pass}
-use Rattle.checks.proofs.Passed.{fields_pass, children_passed}
+use Rattle.checks.proofs.Passed.{children_passed}
 use Rattle.text.specs.Fields.{starts_with, below}
 use Rattle.lines.specs.Lines.{jump_mark}
 use Rattle.sheet_record.specs.declared.Record.{Record}
 use Rattle.sheet_record.specs.Records.{record_fits, mark_at, text_at}
-use Rattle.sheet.proofs.ReadLaws.{NameEntry, names_length, names_entry, names_ascend, rows_length, rows_kind, rows_side, entry_append, text_append}
+use Rattle.sheet.proofs.ReadLaws.{NameEntry, names_length, names_entry, names_ascend, entry_append, text_append}
 use Rattle.refusals.specs.declared.Refusal.{Refusal}
 use Rattle.refusals.specs.declared.Refusal.TheVariants.{TooLong, NoRoom}
 use Rattle.sheet.specs.declared.Loaded.{Loaded}

@@ -1,9 +1,9 @@
 -- Which numbers a load can be refused with, and where: 1 to 9 at a line, 10, 21. So it is never 22, 23 or 24, which are of a state; and it is
 -- 21 only for tables that are too short for some sheet. By cases of the definition.
 use Prim.Native.Nat.{ℕ, ◌*◌, ◌≤◌, ◌<◌}
-use mathlib.Core.Path.{◌≡◌, refl, subst}
+use mathlib.Core.Path.{◌≡◌, refl}
 use mathlib.Core.Bool.{Bool, true, false, cond, ◌&&◌, and-eq-true_iff}
-use mathlib.Core.List.{List, []}
+use mathlib.Core.List.{List}
 use native.Mathlib.Omega.{arith}
 use lib.Dec.{leb}
 use lib.ListN.{length}
@@ -13,12 +13,10 @@ use Rattle.checks.specs.declared.Checked.TheVariants as C
 use Rattle.checks.specs.Steps.{Held}
 use Rattle.checks.specs.Checks.{children_of}
 use Rattle.checks.proofs.Places.{children_place}
-use Rattle.refusals.specs.declared.Refusal.{Refusal}
 use Rattle.sheet_record.specs.declared.Record.{Record}
 use Rattle.sheet.specs.Meaning.{LoadNumbers, loaded, of_line, too_long, no_room}
 use Rattle.sheet.proofs.Reading.{RecordTold}
 use Rattle.sheet.proofs.Refusals.{lines_of_refused}
-use Rattle.refusals.specs.declared.Refusal.{Refusal}
 use Rattle.refusals.specs.declared.Refusal.TheVariants.{TooLong, NoRoom}
 use Rattle.sheet.specs.declared.Loaded.{Loaded}
 use Rattle.sheet.specs.declared.Loaded.TheVariants.{Done, Refused}

@@ -1,12 +1,12 @@
 -- The lines that hold one number each: the code's table is the header's list, a line is read as the list tells of it, and holds a number in its range.
 -- The lines left fall.
-use Prim.Native.Nat.{ℕ, zero, suc, ◌+◌, ◌-◌, ◌*◌, ◌≤◌, ◌<◌}
+use Prim.Native.Nat.{ℕ, zero, suc, ◌+◌, ◌-◌, ◌≤◌, ◌<◌}
 use mathlib.Core.Path.{◌≡◌, refl, sym, ap, ◌∙◌}
-use mathlib.Core.Bool.{Bool, true, false, cond, not}
+use mathlib.Core.Bool.{true, false, cond, not}
 use mathlib.Core.List.{List, [], ◌∷◌, ◌++◌, map}
 use native.Mathlib.Nat.{add-zero, sub-zero}
 use native.Mathlib.Omega.{arith}
-use lib.ListN.{length, take, drop, get_or, set, replicate, length-set}
+use lib.ListN.{length, take, drop, get_or, set, length-set}
 use lib.Seq.{take-append_seam, take-length}
 use borrow.Author.Tests.{not-true, not-false}
 use Rattle.refusals.specs.declared.Refusal.{Refusal}
@@ -21,7 +21,7 @@ use Rattle.sheet.specs.declared.header.Facts.TheVariants as F
 use Rattle.sheet.specs.declared.sections.Section.{Section}
 use Rattle.sheet.specs.declared.sections.Section.TheVariants as S
 use Rattle.sheet.specs.Header.{Greatest, at_most, below_the_names, greatest, HeaderLine, head_lines, fact_lines, record_by, first_fact}
-use Rattle.sheet.specs.Sections.{Lines, read, refused, right_line, wrong_line, prepend, after_line, lines_from, of_number, number_step, head_from, facts_from}
+use Rattle.sheet.specs.Sections.{Lines, read, refused, wrong_line, prepend, after_line, lines_from, of_number, number_step, head_from, facts_from}
 use Rattle.sheet.specs.Steps.{given_greatest, is_below_names, key_line, KeyHeld, greatest_by, KeyRead, header_from, section_of, Filled, head_of, facts_of}
 use Rattle.sheet.proofs.Going.{put_all, never, section_read, section_refused, Going, going_start, going_done, going_filled, going_wrong, wrong_filled, going_next}
 

@@ -1,6 +1,6 @@
 -- What the lines of a sheet can be refused with, and where: 1 to 6, at a line from 1 on. The induction is on the lines left.
-use Prim.Native.Nat.{ℕ, zero, suc, ◌+◌, ◌≤◌, ◌<◌}
-use mathlib.Core.Path.{◌≡◌, refl, sym, ◌∙◌}
+use Prim.Native.Nat.{ℕ, zero, suc, ◌+◌, ◌≤◌}
+use mathlib.Core.Path.{◌≡◌, refl}
 use mathlib.Core.Bool.{Bool, true, false, cond}
 use mathlib.Core.List.{List, [], ◌∷◌}
 use native.Mathlib.Omega.{arith}
@@ -18,7 +18,7 @@ use Rattle.lines.specs.declared.RowLine.TheVariants as R
 use Rattle.lines.specs.Lines.{number_line, name_line, row_at}
 use Rattle.lines.proofs.Refusals.{number_low, name_low, row_low}
 use Rattle.sheet_record.specs.declared.Record.{Record}
-use Rattle.sheet.specs.Header.{HeaderLine, greatest, head_lines, fact_lines, record_by, first_name, first_fact, first_row}
+use Rattle.sheet.specs.Header.{HeaderLine, greatest, head_lines, fact_lines, first_name, first_fact, first_row}
 use Rattle.sheet.specs.Sections.{Line, right_line, wrong_line, Lines, read, refused, prepend, after_line, lines_from, after_lines, of_number, number_step, of_name, name_step, of_row, row_step, head_from, facts_from, names_from, rows_from}
 use Rattle.sheet.specs.Load.{Before, before, stopped, before_rows, parsed, wrong, after_before, line_of, lines_of}
 

@@ -11,7 +11,7 @@ use Rattle.sheet_record.specs.declared.Record.{Record}
 use Rattle.sheet.specs.declared.Loaded.{Loaded}
 use Rattle.sheet.specs.declared.Loaded.TheVariants.{Done, Refused}
 use Rattle.sheet.specs.Header.{record_by, first_row}
-use Rattle.sheet.specs.Sections.{Lines, after_lines, head_from, names_from, facts_from, rows_from}
+use Rattle.sheet.specs.Sections.{after_lines, head_from, names_from, facts_from, rows_from}
 
 -- what each answer is in numbers: the refusal's number, 0 for a good load; the place, "a line number from 1 .., or 0"; and the
 -- record, zeros where it is refused

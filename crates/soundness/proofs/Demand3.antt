@@ -10,7 +10,6 @@ use Rattle.reads.specs.Iffs.{iff_quiet}
 use Rattle.paths.specs.Marks.{Mark, blank, ⊑_refl}
 use Rattle.paths.specs.Commands.{PathEvent, Ending, falls, Command, Runs}
 use Rattle.paths.specs.Semantics.{Order, row_order, free_order, not_asked, is_met, under}
-use Rattle.paths.specs.Triples.{at}
 use Rattle.paths.specs.Written.{Written, ReadsWritten}
 use Rattle.paths.proofs.Rules.{good_never}
 use Rattle.paths.proofs.Meaning.{reads_written, fall_is_written}

@@ -1,4 +1,3 @@
-use borrow.Author.Rules.{rules}
 use Rattle.capi.proofs.Room.{room_for_all}
 use mathlib.Core.Path.{refl}
 use Rattle.capi.proofs.da_row_numbers.Statement.{statement}
