@@ -124,7 +124,7 @@ fn case_of(value: &Value) -> Case {
         None => Way::Statement(value.field("most").number()),
     };
     let extent = match value.field("extent").made() {
-        ("up-to", [events]) => Some(events.number()),
+        ("up_to", [events]) => Some(events.number()),
         _ => None,
     };
     let expected = value.field("expected").list().iter().map(run_of).collect();
@@ -134,12 +134,12 @@ fn case_of(value: &Value) -> Case {
 
 fn way_of(value: &Value) -> Way {
     match value.made() {
-        ("as-value", _) => Way::Value,
-        ("as-target", _) => Way::Target,
-        ("as-truth", [truth]) => Way::Truth(match truth.made().0 {
-            "is-true" => Truth::True,
-            "is-false" => Truth::False,
-            "is-unknown" => Truth::Unknown,
+        ("as_value", _) => Way::Value,
+        ("as_target", _) => Way::Target,
+        ("as_truth", [truth]) => Way::Truth(match truth.made().0 {
+            "is_true" => Truth::True,
+            "is_false" => Truth::False,
+            "is_unknown" => Truth::Unknown,
             other => panic!("{other} is no truth"),
         }),
         (other, _) => panic!("{other} is no way to evaluate"),
@@ -169,7 +169,7 @@ fn event_of(value: &Value) -> Event {
 
 fn sheet_of(value: &Value) -> Sheet {
     let fails = match value.field("1").made() {
-        ("at-row", [row]) => Some(row.number()),
+        ("at_row", [row]) => Some(row.number()),
         _ => None,
     };
     Sheet { rows: rows_of(&value.field("0")), fails }

@@ -65,9 +65,9 @@ impl Source {
     fn add(&mut self, part: &str, span: Range<usize>) {
         let declared = part.strip_prefix("abbrev ").map(|rest| rest.strip_prefix("pub ").unwrap_or(rest));
         if let Some((name, of)) = declared.and_then(|rest| rest.split_once(" : ")) {
-            self.types.insert(name.to_string(), of.trim().to_string());
-        } else if let Some(name) = part.split_whitespace().next().filter(|name| self.types.contains_key(*name)) {
-            self.equations.entry(name.to_string()).or_default().push(span);
+            self.types.insert(spelled(name), of.trim().to_string());
+        } else if let Some(name) = part.split_whitespace().next().map(spelled).filter(|name| self.types.contains_key(name)) {
+            self.equations.entry(name).or_default().push(span);
         }
     }
 
@@ -83,7 +83,12 @@ impl Source {
     }
 }
 
-/// The next word or sign of a text: a bracket, comma or semicolon, a text in quotes, or whatever stands up to a space or one of those.
+/// A name as it is spelled now; earlier revisions have dashes.
+fn spelled(name: &str) -> String {
+    name.replace('-', "_")
+}
+
+/// The next word or sign of a text: a bracket, comma or semicolon, a text in quotes, or whatever stands up to a space, one of those or a field.
 fn token(text: &str) -> usize {
     let signs = ['(', ')', '{', '}', ',', ';'];
     if text.starts_with(signs) {
@@ -92,7 +97,11 @@ fn token(text: &str) -> usize {
     if let Some(quoted) = text.strip_prefix('"') {
         return quoted.find('"').map_or(text.len(), |end| end + 2);
     }
-    text.find(|c: char| c.is_whitespace() || signs.contains(&c)).unwrap_or(text.len())
+    let end = text.find(|c: char| c.is_whitespace() || signs.contains(&c)).unwrap_or(text.len());
+    match text[..end].find('.') {
+        Some(dot) if 0 < dot && dot + 1 < end => dot,
+        _ => end,
+    }
 }
 
 /// The words and signs of a part of a text, with where they stand; comments are left out.
@@ -173,7 +182,7 @@ impl<'a> Parser<'a> {
         Expr { node: join(Box::new(first), Box::new(rest)), span }
     }
 
-    /// A field is taken of all that stands before it.
+    /// A field with a space before it, as earlier revisions have it, is taken of all that stands before it.
     fn application(&mut self) -> Expr {
         let mut so_far = self.atom();
         loop {
@@ -184,7 +193,7 @@ impl<'a> Parser<'a> {
             let start = so_far.span.start;
             if let Some(field) = word.strip_prefix('.') {
                 let (_, span) = self.taken();
-                so_far = Expr { node: Node::Field(Box::new(so_far), field.to_string()), span: start..span.end };
+                so_far = Expr { node: Node::Field(Box::new(so_far), spelled(field)), span: start..span.end };
             } else {
                 let argument = self.atom();
                 let end = argument.span.end;
@@ -193,7 +202,18 @@ impl<'a> Parser<'a> {
         }
     }
 
+    /// What is no application, with the fields that follow it at once.
     fn atom(&mut self) -> Expr {
+        let mut so_far = self.bare();
+        while self.tokens.get(self.next).is_some_and(|span| span.start == so_far.span.end) {
+            let Some(field) = self.peek().strip_prefix('.') else { break };
+            let span = so_far.span.start..self.taken().1.end;
+            so_far = Expr { node: Node::Field(Box::new(so_far), spelled(field)), span };
+        }
+        so_far
+    }
+
+    fn bare(&mut self) -> Expr {
         let (word, span) = self.taken();
         let start = span.start;
         match word {
@@ -224,7 +244,7 @@ impl<'a> Parser<'a> {
         let mut names = Vec::new();
         loop {
             let (word, _) = self.taken();
-            names.push(word.trim_end_matches('.').to_string());
+            names.push(spelled(word.trim_end_matches('.')));
             if word.ends_with('.') {
                 break;
             }
@@ -241,7 +261,7 @@ impl<'a> Parser<'a> {
         loop {
             let (name, _) = self.taken();
             self.expect("=");
-            fields.push((name.to_string(), self.expr()));
+            fields.push((spelled(name), self.expr()));
             if self.peek() == "}" {
                 break;
             }
@@ -256,6 +276,6 @@ fn plain(word: &str) -> Node {
     match word.parse() {
         Ok(number) => Node::Number(number),
         Err(_) if word.starts_with('"') => Node::Text(word.trim_matches('"').to_string()),
-        Err(_) => Node::Name(word.to_string()),
+        Err(_) => Node::Name(spelled(word)),
     }
 }
