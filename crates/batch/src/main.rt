@@ -1,68 +1,84 @@
 // Many sheets on standard input, and on standard output one line for each: the five lines of its answer joined by `;`.
 //
 // A frame is a line with the decimal number of bytes of its sheet, and then those bytes (`frames`). A sheet of any size is answered; of
-// one that is too long the rest is passed over. A frame that is broken ends the run, with a last line that says which and why.
+// one that is too long the rest is passed over. A frame that is broken ends the run, with a last line that says which and why. A read
+// or a write that fails ends it with its error.
 #![tactic(auto)]
 
 use answers::Answer;
 use frames::Came;
-use libc::STDOUT_FILENO;
+use std::io;
+use std::io::Read;
 
-fn say(text: &[u8]) {
-    io::write_all(STDOUT_FILENO, text);
+fn say(rt: &impl Print, text: &[u8]) -> io::Result<()> {
+    rt.write_all(text)
 }
 
-fn say_answer(answer: Answer) {
+fn say_answer(rt: &impl Print, answer: Answer) -> io::Result<()> {
     let text = answers::text_of(answer, b';');
     let bytes = text.bytes;
     let size = text.size;
-    say(&bytes[0..size]);
+    say(rt, &bytes[0..size])
 }
 
-fn say_broken(frame: usize, why: &[u8]) {
-    say(b"broken frame ");
-    io::print_decimal(STDOUT_FILENO, frame as u64);
-    say(b": ");
-    say(why);
-    say(b"\n");
+fn say_broken(rt: &impl Print, frame: usize, why: &[u8]) -> io::Result<()> {
+    say(rt, b"broken frame ")?;
+    rt.print(frame)?;
+    say(rt, b": ")?;
+    say(rt, why)?;
+    say(rt, b"\n")
 }
 
 // Answers the frame with this number; false where there is none, or it is broken.
-fn answer_frame(frame: usize, sheet: &mut [u8], rows: &mut [u32], names: &mut [u32]) -> bool {
-    let next = frames::next_frame(sheet);
+fn answer_frame<R: Read>(
+    rt: &impl Print,
+    input: &mut R,
+    frame: usize,
+    sheet: &mut [u8],
+    rows: &mut [u32],
+    names: &mut [u32],
+) -> io::Result<bool> {
+    let next = frames::next_frame(input, sheet)?;
     let came = next.came;
     let size = next.size;
     match came {
-        Came::Nothing => false,
+        Came::Nothing => Ok(false),
         Came::NoSize => {
-            say_broken(frame, b"its first line is no size");
-            false
+            say_broken(rt, frame, b"its first line is no size")?;
+            Ok(false)
         }
         Came::Short => {
-            say_broken(frame, b"the input ends before its size");
-            false
+            say_broken(rt, frame, b"the input ends before its size")?;
+            Ok(false)
         }
         Came::Whole => {
-            say_answer(verdict::verdict(&sheet[0..size], rows, names));
-            true
+            say_answer(rt, verdict::verdict(&sheet[0..size], rows, names))?;
+            Ok(true)
         }
     }
 }
 
-fn answer_frames(sheet: &mut [u8], rows: &mut [u32], names: &mut [u32]) {
+fn answer_frames<R: Read>(
+    rt: &impl Print,
+    input: &mut R,
+    sheet: &mut [u8],
+    rows: &mut [u32],
+    names: &mut [u32],
+) -> io::Result<()> {
     let mut frame = 1;
     while frame < 18446744073709551615 {
-        if !answer_frame(frame, sheet, rows, names) {
-            return;
+        if !answer_frame(rt, input, frame, sheet, rows, names)? {
+            return Ok(());
         }
         frame += 1;
     }
+    Ok(())
 }
 
 // One byte more than a sheet may have is kept, so that a longer one is refused.
-fn main() {
+fn main(rt: HostRuntime) -> io::Result<()> {
     let mut sheet = [0u8; 65537];
     let mut rows = [0u32; 10000];
     let mut names = [0u32; 1500];
-    answer_frames(&mut sheet, &mut rows, &mut names);
+    answer_frames(&rt, &mut rt.stdin(), &mut sheet, &mut rows, &mut names)
 }

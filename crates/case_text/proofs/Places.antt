@@ -2,10 +2,10 @@
 use Prim.Native.Nat.{ℕ, ◌+◌, ◌-◌, ◌≤◌, ◌<◌}
 use mathlib.Core.Path.{◌≡◌, sym, ◌∙◌}
 use mathlib.Core.List.{List}
-use native.Mathlib.Nat.{add-zero, sub-zero}
+use native.Mathlib.Nat.{add-zero}
 use native.Mathlib.Numerals.{add-one}
 use native.Mathlib.Omega.{arith}
-use lib.ListN.{length, get_or, take, drop, length-drop, drop_of_length-le, get_or-eq_default}
+use lib.ListN.{length, get_or, take, drop, length-drop, drop_of_length-le}
 use lib.Seq.{drop-cons, take_all}
 use borrow.Author.Tests.{eq-eqb, ne_eqb, le-leb, lt-leb, lt-ltb, le-ltb}
 use Rattle.case_text.specs.Texts.{first_place, smaller, past_place}
@@ -39,22 +39,6 @@ module _ (byte : ℕ) (text : List ℕ) (i : ℕ) (w : Seeking byte text i) wher
 pub part_whole : (text : List ℕ) (n : ℕ) → take (length text - n) (drop n text) ≡ drop n text
 part_whole text n = take_all (length text - n) (drop n text) (omega (arith, length-drop n text))
 
--- the parts before and after a place that `find` tells
-module _ (byte : ℕ) (text : List ℕ) (n : ℕ) (e : n ≡ first_place byte text) where
-  pub part_before : take (n - 0) text ≡ take (first_place byte text) text
-  part_before = rw (sub-zero, e)
-
-  pub part_after : take (length text - (n + 1)) (drop (n + 1) text) ≡ drop (first_place byte text + 1) text
-  part_after = rw (part_whole text (n + 1), e)
-
-  pub part_none : length text ≤ n → take (length text - n) (drop n text) ≡ drop (first_place byte text + 1) text
-  part_none h =
-      let l : length text ≤ first_place byte text + 1 = omega arith in
-      rw (part_whole text n, drop_of_length-le text h, drop_of_length-le text l)
-
-pub nth_past : (text : List ℕ) (i : ℕ) → length text ≤ i → 0 ≡ get_or text i 0
-nth_past text i h = sym (get_or-eq_default text 0 h)
-
 pub smaller_first : (a b : ℕ) → a ≤ b → a ≡ smaller a b
 unfolding smaller
 smaller_first a b h = rw (le-leb a b h)
@@ -71,4 +55,4 @@ pub past_end : (size at n : ℕ) → size - at ≤ n → size ≡ past_place siz
 unfolding past_place
 past_end size at n h = rw (le-ltb n (size - at) h)
 
-pub ruleset answers = (seek_start, seek_end, seek_found, seek_on, part_before, part_after, part_none, nth_past, smaller_first, smaller_second, past_within, past_end)
+pub ruleset answers = (seek_start, seek_end, seek_found, seek_on, smaller_first, smaller_second, past_within, past_end)

@@ -4,7 +4,7 @@ use mathlib.Core.Path.{◌≡◌, refl, sym, ap, ◌∙◌}
 use mathlib.Core.List.{List}
 use native.Mathlib.Numerals.{add-one}
 use lib.ListN.{length, get_or, set, drop, length-set, drop_of_length-le}
-use lib.Seq.{drop-cons, set_out}
+use lib.Seq.{drop-cons}
 use borrow.Author.Tests.{lt-ltb, le-ltb}
 use Rattle.case_text.specs.Texts.{put_place, put_all, all_place}
 
@@ -15,9 +15,6 @@ place_within size at h = rw (lt-ltb at size h)
 pub place_past : (size at : ℕ) → size ≤ at → at ≡ put_place size at
 unfolding put_place
 place_past size at h = rw (le-ltb at size h)
-
-pub put_past : (out : List ℕ) (at byte : ℕ) → length out ≤ at → out ≡ set out at byte
-put_past out at byte h = sym (set_out out at byte h)
 
 -- what the putting of a text knows at byte i of the text
 pub record Putting (out₀ : List ℕ) (from : ℕ) (text out : List ℕ) (at i : ℕ) : Type 0 where
@@ -45,4 +42,4 @@ module _ {out₀ : List ℕ} {from : ℕ} {text out : List ℕ} {at i : ℕ} (w 
     bytes = w.bytes ∙ rw (drop-cons text i 0 h, e, q, add-one);
   }
 
-pub ruleset answers = (place_within, place_past, put_past, put_start, place_end, bytes_end, put_on)
+pub ruleset answers = (place_within, place_past, put_start, place_end, bytes_end, put_on)

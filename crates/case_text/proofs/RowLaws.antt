@@ -3,13 +3,13 @@
 use Prim.Native.Nat.{ℕ, ◌+◌, ◌*◌, ◌/◌, ◌%◌, ◌≤◌, ◌<◌}
 use mathlib.Core.Path.{◌≡◌, sym, ap, ◌∙◌}
 use mathlib.Core.List.{List}
-use lib.ListN.{length, take, set}
+use lib.ListN.{length, set}
 use borrow.Author.Tests.{le-leb, lt-leb, eq-eqb, ne_eqb}
 use Rattle.kinds.specs.declared.Found.{Found}
 use Rattle.kinds.specs.declared.Found.TheVariants.{Is, Unknown}
 use Rattle.kinds.specs.Words.{kind_of}
 use Rattle.sheet_record.specs.declared.Record.{Record}
-use Rattle.case_text.specs.Texts.{first_place, saturating_decimal, number_before, text_after}
+use Rattle.case_text.specs.Texts.{saturating_decimal, number_before, text_after}
 use Rattle.kinds.specs.Named.{kind_number}
 use Rattle.case_text.specs.RowTexts.{record_text, kind_field, set_row}
 
@@ -40,9 +40,6 @@ module _ (rows : List ℕ) (i kind side end : ℕ) where
   unfolding set_row
   row_set h = rw (lt-leb (length rows / 5) i h)
 
-pub number_told : (byte : ℕ) (text part : List ℕ) (r : ℕ) → part ≡ take (first_place byte text) text → r ≡ saturating_decimal 0 part → r ≡ number_before byte text
-number_told byte text part r p e = e ∙ ap (saturating_decimal 0) p
-
 -- the texts after each number, and the numbers
 module _ (text rows local start sole : List ℕ) (r : Record) where
   pub record_told : rows ≡ text_after 32 text → local ≡ text_after 32 rows → start ≡ text_after 32 local → sole ≡ text_after 32 start
@@ -51,4 +48,4 @@ module _ (text rows local start sole : List ℕ) (r : Record) where
   unfolding record_text
   record_told a b c d n o p q s = rw (n, o, p, q, s, d, c, b, a)
 
-pub ruleset answers = (number_told, record_told, is_kind_lem, no_kind, by_number, by_word, row_past, row_set)
+pub ruleset answers = (record_told, is_kind_lem, no_kind, by_number, by_word, row_past, row_set)

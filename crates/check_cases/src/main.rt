@@ -5,28 +5,28 @@
 // - ends: of the same rows as blocks, which may stand in blocks and have no side number, so that only ends and depth are left;
 // - children: of the same rows without side numbers, a kind above 65 being `default`, so that the fields pass.
 // Rows `*nested` or `*flat` stand for so many blocks as the count says, each in the one before it or all in the first. A line without
-// `|` is a word: its kind number, 66 where it is none.
+// `|` is a word: its kind number, 66 where it is none. A read or a write that fails ends the run with its error.
 #![tactic(auto)]
 
 use checks::Checked;
-use libc::{STDIN_FILENO, STDOUT_FILENO};
+use std::io;
 
-fn say(text: &[u8]) {
-    io::write_all(STDOUT_FILENO, text);
+fn say(rt: &impl Print, text: &[u8]) -> io::Result<()> {
+    rt.write_all(text)
 }
 
-fn number(n: usize) {
-    io::print_decimal(STDOUT_FILENO, n as u64);
+fn number(rt: &impl Print, n: usize) -> io::Result<()> {
+    rt.print(n)
 }
 
-fn answer(text: &[u8], checked: Checked) {
-    say(text);
+fn answer(rt: &impl Print, text: &[u8], checked: Checked) -> io::Result<()> {
+    say(rt, text)?;
     match checked {
-        Checked::Passed => say(b"0"),
+        Checked::Passed => say(rt, b"0"),
         Checked::Refused(refusal, row) => {
-            number(refusals::number_of(refusal));
-            say(b" at ");
-            number(row);
+            number(rt, refusals::number_of(refusal))?;
+            say(rt, b" at ")?;
+            number(rt, row)
         }
     }
 }
@@ -56,22 +56,34 @@ fn without_fields(rows: &mut [u32]) {
     }
 }
 
-fn report(title: &[u8], space: [u32; 10005], numbers: usize, count: usize, names: usize) {
+fn report(
+    rt: &impl Print,
+    title: &[u8],
+    space: [u32; 10005],
+    numbers: usize,
+    count: usize,
+    names: usize,
+) -> io::Result<()> {
     if 10005 < numbers {
-        return;
+        return Ok(());
     }
     let mut blocks = space;
     case_text::as_blocks(&mut blocks);
     let mut kinds = space;
     without_fields(&mut kinds);
-    say(title);
+    say(rt, title)?;
     answer(
+        rt,
         b": fields ",
         of_fields(checks::check(&space[0..numbers], count, names)),
-    );
-    answer(b", ends ", checks::check(&blocks[0..numbers], count, 1));
-    answer(b", children ", checks::check(&kinds[0..numbers], count, 1));
-    say(b"\n");
+    )?;
+    answer(rt, b", ends ", checks::check(&blocks[0..numbers], count, 1))?;
+    answer(
+        rt,
+        b", children ",
+        checks::check(&kinds[0..numbers], count, 1),
+    )?;
+    say(rt, b"\n")
 }
 
 fn row_of(rows: &mut [u32], i: usize, text: &[u8]) {
@@ -117,7 +129,7 @@ fn rows_of(rows: &mut [u32], count: u32, text: &[u8]) {
     }
 }
 
-fn one_case(title: &[u8], text: &[u8]) {
+fn one_case(rt: &impl Print, title: &[u8], text: &[u8]) -> io::Result<()> {
     let mut space = [0u32; 10005];
     let count = case_text::field(case_text::before(text, b'|'));
     let rest = case_text::after(text, b'|');
@@ -125,32 +137,37 @@ fn one_case(title: &[u8], text: &[u8]) {
     let named = case_text::after(rest, b'|');
     let names = table::wide(case_text::field(case_text::before(named, b'|')));
     rows_of(&mut space, count, case_text::after(named, b'|'));
-    report(title, space, numbers, table::wide(count), names);
+    report(rt, title, space, numbers, table::wide(count), names)
 }
 
-fn line(text: &[u8]) {
+fn line(rt: &impl Print, text: &[u8]) -> io::Result<()> {
     if case_text::find(text, b'|') < text.len() {
-        one_case(case_text::before(text, b'|'), case_text::after(text, b'|'));
+        one_case(
+            rt,
+            case_text::before(text, b'|'),
+            case_text::after(text, b'|'),
+        )
     } else {
-        say(text);
-        say(b" ");
-        number(table::wide(case_text::kind(text)));
-        say(b"\n");
+        say(rt, text)?;
+        say(rt, b" ")?;
+        number(rt, table::wide(case_text::kind(text)))?;
+        say(rt, b"\n")
     }
 }
 
-fn lines(text: &[u8]) {
+fn lines(rt: &impl Print, text: &[u8]) -> io::Result<()> {
     let mut at = 0;
     while at < text.len() {
         let part = case_text::before(&text[at..], b'\n');
         let n = part.len();
-        line(part);
+        line(rt, part)?;
         at = case_text::past(text, at, n);
     }
+    Ok(())
 }
 
-fn main() {
-    let mut space = io::large_buffer();
-    let n = io::read_full(STDIN_FILENO, &mut space);
-    lines(&space[..n]);
+fn main(rt: HostRuntime) -> io::Result<()> {
+    let mut space = [0u8; 65536];
+    let n = frames::read_full(&mut rt.stdin(), &mut space)?;
+    lines(&rt, &space[..n])
 }

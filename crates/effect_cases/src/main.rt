@@ -7,7 +7,8 @@
 //
 // Out come the rows of the first mention, with the iff of events skipped and included, `_` where there is none; then, where row 0 is a
 // statement, what stmt_no_ref says, and where it is an expression or a target, its effect and whether the local is written once its
-// value is true, and false. Rows whose ends or depth do not pass the check are refused: nobody may ask about them.
+// value is true, and false. Rows whose ends or depth do not pass the check are refused: nobody may ask about them. A read or a write
+// that fails ends the run with its error.
 #![tactic(auto)]
 
 ghost use Rattle.std.specs.Prelude.{◌≤◌, length};
@@ -16,9 +17,9 @@ ghost use Rattle.case_text.specs.RowTexts.{EndsKept};
 
 use checks::Checked;
 use effect_rules::ExprDa;
-use libc::{STDIN_FILENO, STDOUT_FILENO};
 use reads::{Iff, Mention};
 use refusals::Refusal;
+use std::io;
 
 // What a word says of its row.
 #[derive(Clone, Copy)]
@@ -27,58 +28,60 @@ struct KindAndSide {
     side: u32,
 }
 
-fn say(text: &[u8]) {
-    io::write_all(STDOUT_FILENO, text);
+fn say(rt: &impl Print, text: &[u8]) -> io::Result<()> {
+    rt.write_all(text)
 }
 
-fn number(n: usize) {
-    io::print_decimal(STDOUT_FILENO, n as u64);
+fn number(rt: &impl Print, n: usize) -> io::Result<()> {
+    rt.print(n)
 }
 
-fn say_bit(bit: bool) {
-    if bit {
-        say(b" 1");
-    } else {
-        say(b" 0");
-    }
+fn say_bit(rt: &impl Print, bit: bool) -> io::Result<()> {
+    if bit { say(rt, b" 1") } else { say(rt, b" 0") }
 }
 
-fn say_mention(mention: Mention) {
-    say(b" ");
+fn say_mention(rt: &impl Print, mention: Mention) -> io::Result<()> {
+    say(rt, b" ")?;
     match mention {
-        Mention::At(row) => number(row),
-        Mention::Nowhere => say(b"-"),
+        Mention::At(row) => number(rt, row),
+        Mention::Nowhere => say(rt, b"-"),
     }
 }
 
-fn say_effect(effect: ExprDa) {
+fn say_effect(rt: &impl Print, effect: ExprDa) -> io::Result<()> {
     match effect {
-        ExprDa::Clean => say(b", Clean"),
-        ExprDa::Writes => say(b", Writes"),
-        ExprDa::Reads => say(b", Reads"),
+        ExprDa::Clean => say(rt, b", Clean"),
+        ExprDa::Writes => say(rt, b", Writes"),
+        ExprDa::Reads => say(rt, b", Reads"),
     }
 }
 
 // The effect where row 0 is an expression or a target: the kinds from 40 on.
-fn effect(rows: &[u32], count: usize, local: usize, kind: usize)
+fn effect(rt: &impl Print, rows: &[u32], count: usize, local: usize, kind: usize) -> io::Result<()>
     requires { Nested rows.now 0 count }
 {
     if kind < 40 {
-        return;
+        return Ok(());
     }
     let effects = expr_effect::expr_writes_when(rows, local, 0, count);
     let da = effects.effect;
-    say_effect(da);
-    say_bit(effects.when_true);
-    say_bit(effects.when_false);
+    say_effect(rt, da)?;
+    say_bit(rt, effects.when_true)?;
+    say_bit(rt, effects.when_false)
 }
 
-fn mentions(rows: &[u32], count: usize, local: usize)
+fn mentions(rt: &impl Print, rows: &[u32], count: usize, local: usize) -> io::Result<()>
     requires { Nested rows.now 0 count }
 {
-    say(b": first");
-    say_mention(reads::first_mention(rows, Iff::Skipped, local, 0, count));
-    say_mention(reads::first_mention(rows, Iff::Included, local, 0, count));
+    say(rt, b": first")?;
+    say_mention(
+        rt,
+        reads::first_mention(rows, Iff::Skipped, local, 0, count),
+    )?;
+    say_mention(
+        rt,
+        reads::first_mention(rows, Iff::Included, local, 0, count),
+    )
 }
 
 fn first_kind(rows: &[u32]) -> usize {
@@ -88,32 +91,38 @@ fn first_kind(rows: &[u32]) -> usize {
     table::wide(rows[0])
 }
 
-fn answer(rows: &[u32], count: usize, local: usize)
+fn answer(rt: &impl Print, rows: &[u32], count: usize, local: usize) -> io::Result<()>
     requires { Nested rows.now 0 count }
 {
-    mentions(rows, count, local);
+    mentions(rt, rows, count, local)?;
     let kind = first_kind(rows);
     if kinds::is_statement(kind) {
-        say(b", no_ref");
-        say_bit(reads::stmt_no_ref(rows, local, 0, count));
+        say(rt, b", no_ref")?;
+        say_bit(rt, reads::stmt_no_ref(rows, local, 0, count))
     } else {
-        effect(rows, count, local, kind);
+        effect(rt, rows, count, local, kind)
     }
 }
 
 // Nobody may ask about rows that are refused, whatever for.
-fn say_refused(refusal: Refusal) {
-    say(b": refused");
+fn say_refused(rt: &impl Print, refusal: Refusal) -> io::Result<()> {
+    say(rt, b": refused")
 }
 
 // The ends are checked on the same rows as blocks, since these need be neither a statement's nor fit their kinds.
-fn check_and_answer(rows: &[u32], blocks: &[u32], count: usize, local: usize)
+fn check_and_answer(
+    rt: &impl Print,
+    rows: &[u32],
+    blocks: &[u32],
+    count: usize,
+    local: usize,
+) -> io::Result<()>
     requires { EndsKept rows.now blocks.now }
 {
     let checked = checks::check(blocks, count, 1);
     match checked {
-        Checked::Passed => answer(rows, count, local),
-        Checked::Refused(refusal, row) => say_refused(refusal),
+        Checked::Passed => answer(rt, rows, count, local),
+        Checked::Refused(refusal, row) => say_refused(rt, refusal),
     }
 }
 
@@ -280,34 +289,36 @@ fn fill_rows(rows: &mut [u32], text: &[u8]) -> usize {
     n
 }
 
-fn one_case(text: &[u8]) {
+fn one_case(rt: &impl Print, text: &[u8]) -> io::Result<()> {
     let mut space = [0u32; 10005];
     let rest = case_text::after(text, b'|');
     let count = fill_rows(&mut space, case_text::after(rest, b'|'));
     let mut blocks = space;
     case_text::as_blocks(&mut blocks);
-    say(case_text::before(text, b'|'));
+    say(rt, case_text::before(text, b'|'))?;
     check_and_answer(
+        rt,
         &space,
         &blocks,
         count,
         case_text::decimal(case_text::before(rest, b'|')),
-    );
-    say(b"\n");
+    )?;
+    say(rt, b"\n")
 }
 
-fn cases(text: &[u8]) {
+fn cases(rt: &impl Print, text: &[u8]) -> io::Result<()> {
     let mut at = 0;
     while at < text.len() {
         let part = case_text::before(&text[at..], b'\n');
         let n = part.len();
-        one_case(part);
+        one_case(rt, part)?;
         at = case_text::past(text, at, n);
     }
+    Ok(())
 }
 
-fn main() {
-    let mut space = io::large_buffer();
-    let n = io::read_full(STDIN_FILENO, &mut space);
-    cases(&space[..n]);
+fn main(rt: HostRuntime) -> io::Result<()> {
+    let mut space = [0u8; 65536];
+    let n = frames::read_full(&mut rt.stdin(), &mut space)?;
+    cases(&rt, &space[..n])
 }

@@ -1,10 +1,11 @@
-// Frames on standard input, which the programs of many cases read: a line with the decimal number of bytes, and then those bytes. The
-// number has no zero in front and at most 18 digits.
+// Frames of an input, which the programs of many cases read: a line with the decimal number of bytes, and then those bytes. The
+// number has no zero in front and at most 18 digits. A read that fails ends the reading with its error.
 #![tactic(auto)]
 
-ghost use Rattle.std.specs.Prelude.{◌≡◌, ◌≤◌, length};
+ghost use Rattle.std.specs.Prelude.{◌≡◌, ◌≤◌, length, IfOk};
 
-use libc::STDIN_FILENO;
+use std::io;
+use std::io::Read;
 
 // What came: nothing, since the input has ended; a frame; a line that is no size; or fewer bytes than the size said.
 #[derive(Clone, Copy)]
@@ -34,14 +35,29 @@ fn usize_of_byte(byte: u8) -> usize {
     byte as usize
 }
 
-// The next byte, or 256 where the input has ended.
-fn next_byte() -> usize {
-    let mut one = [0u8; 1];
-    let got = io::read_full(STDIN_FILENO, &mut one);
-    if got == 0 {
-        return 256;
+// Reads until the slice is full or the input ends, and answers how many bytes came.
+pub fn read_full<R: Read>(input: &mut R, space: &mut [u8]) -> io::Result<usize>
+    ensures { IfOk result (λ n. n ≤ length space.old) }
+{
+    let mut done = 0;
+    while done < space.len() {
+        let n = input.read(&mut space[done..])?;
+        if n == 0 {
+            break;
+        }
+        done += n;
     }
-    usize_of_byte(one[0])
+    Ok(done)
+}
+
+// The next byte, or 256 where the input has ended.
+fn next_byte<R: Read>(input: &mut R) -> io::Result<usize> {
+    let mut one = [0u8; 1];
+    let got = read_full(input, &mut one)?;
+    if got == 0 {
+        return Ok(256);
+    }
+    Ok(usize_of_byte(one[0]))
 }
 
 fn is_digit(byte: usize) -> bool {
@@ -60,35 +76,35 @@ fn with_digit(size: usize, byte: usize) -> usize {
 }
 
 // The rest of a size's line, after its first digit.
-fn rest_of_size(first: usize) -> Start {
+fn rest_of_size<R: Read>(input: &mut R, first: usize) -> io::Result<Start> {
     let mut size = first;
     let mut left: usize = 18;
     while 0 < left {
-        let byte = next_byte();
+        let byte = next_byte(input)?;
         if byte == 10 {
-            return Start::Size(size);
+            return Ok(Start::Size(size));
         }
         if !is_digit(byte) {
-            return Start::NoSize;
+            return Ok(Start::NoSize);
         }
         if size == 0 {
-            return Start::NoSize;
+            return Ok(Start::NoSize);
         }
         size = with_digit(size, byte);
         left -= 1;
     }
-    Start::NoSize
+    Ok(Start::NoSize)
 }
 
-fn start_of_frame() -> Start {
-    let byte = next_byte();
+fn start_of_frame<R: Read>(input: &mut R) -> io::Result<Start> {
+    let byte = next_byte(input)?;
     if byte == 256 {
-        return Start::Nothing;
+        return Ok(Start::Nothing);
     }
     if !is_digit(byte) {
-        return Start::NoSize;
+        return Ok(Start::NoSize);
     }
-    rest_of_size(byte % 48)
+    rest_of_size(input, byte % 48)
 }
 
 fn least(a: usize, b: usize) -> usize
@@ -102,26 +118,26 @@ fn least(a: usize, b: usize) -> usize
 }
 
 // Passes over some of so many bytes, and answers how many; 0 where the input has ended.
-fn pass_some(bytes: usize) -> usize
-    ensures { result ≤ bytes }
+fn pass_some<R: Read>(input: &mut R, bytes: usize) -> io::Result<usize>
+    ensures { IfOk result (λ n. n ≤ bytes) }
 {
-    let mut space = io::buffer();
+    let mut space = [0u8; 4096];
     let part: &mut [u8] = &mut space;
     let n = least(bytes, part.len());
-    io::read_full(STDIN_FILENO, &mut part[0..n])
+    read_full(input, &mut part[0..n])
 }
 
 // Passes over so many bytes; false where the input ends before.
-fn pass_over(bytes: usize) -> bool {
+fn pass_over<R: Read>(input: &mut R, bytes: usize) -> io::Result<bool> {
     let mut left = bytes;
     while 0 < left {
-        let n = pass_some(left);
+        let n = pass_some(input, left)?;
         if n == 0 {
-            return false;
+            return Ok(false);
         }
         left -= n;
     }
-    true
+    Ok(true)
 }
 
 fn no_frame(came: Came) -> Frame
@@ -134,31 +150,31 @@ fn no_frame(came: Came) -> Frame
 }
 
 // Keeps as many of a frame's bytes as the slice holds, and passes over the rest.
-fn frame_of(size: usize, space: &mut [u8]) -> Frame
-    ensures { result.size ≤ length space.old }
+fn frame_of<R: Read>(input: &mut R, size: usize, space: &mut [u8]) -> io::Result<Frame>
+    ensures { IfOk result (λ frame. frame.size ≤ length space.old) }
 {
     let kept = least(size, space.len());
-    let got = io::read_full(STDIN_FILENO, &mut space[0..kept]);
+    let got = read_full(input, &mut space[0..kept])?;
     if got < kept {
-        return no_frame(Came::Short);
+        return Ok(no_frame(Came::Short));
     }
-    if !pass_over(size - kept) {
-        return no_frame(Came::Short);
+    if !pass_over(input, size - kept)? {
+        return Ok(no_frame(Came::Short));
     }
-    Frame {
+    Ok(Frame {
         came: Came::Whole,
         size: kept,
-    }
+    })
 }
 
 // Reads the next frame into a slice.
-pub fn next_frame(space: &mut [u8]) -> Frame
-    ensures { result.size ≤ length space.old }
+pub fn next_frame<R: Read>(input: &mut R, space: &mut [u8]) -> io::Result<Frame>
+    ensures { IfOk result (λ frame. frame.size ≤ length space.old) }
 {
-    let start = start_of_frame();
+    let start = start_of_frame(input)?;
     match start {
-        Start::Nothing => no_frame(Came::Nothing),
-        Start::NoSize => no_frame(Came::NoSize),
-        Start::Size(size) => frame_of(size, space),
+        Start::Nothing => Ok(no_frame(Came::Nothing)),
+        Start::NoSize => Ok(no_frame(Came::NoSize)),
+        Start::Size(size) => frame_of(input, size, space),
     }
 }

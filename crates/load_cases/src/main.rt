@@ -10,33 +10,33 @@
 //
 // In a sheet, and in a name table, `;` stands for byte 10, `\hh` for a byte by its two hexadecimal digits, and `[n:text]` for the
 // text n times. In a text so repeated `#` is the number of the repetition from 0, in four digits, and `^` that number plus 2, which
-// is the end of a childless row under row 0; elsewhere that number is 0.
+// is the end of a childless row under row 0; elsewhere that number is 0. A read or a write that fails ends the run with its error.
 #![tactic(auto)]
 
 ghost use Rattle.std.specs.Prelude.{◌<◌, length};
 
-use libc::{STDIN_FILENO, STDOUT_FILENO};
+use itoa::Buffer;
 use names::Named;
 use refusals::Refusal;
 use sheet::Loaded;
 use sheet_record::Record;
+use std::io;
 
-fn say(text: &[u8]) {
-    io::write_all(STDOUT_FILENO, text);
+fn say(rt: &impl Print, text: &[u8]) -> io::Result<()> {
+    rt.write_all(text)
 }
 
-fn number(n: usize) {
-    io::print_decimal(STDOUT_FILENO, n as u64);
+fn number(rt: &impl Print, n: usize) -> io::Result<()> {
+    rt.print(n)
 }
 
-fn refusal_number(refusal: Refusal) {
-    number(refusals::number_of(refusal));
+fn refusal_number(rt: &impl Print, refusal: Refusal) -> io::Result<()> {
+    number(rt, refusals::number_of(refusal))
 }
 
 fn put_plain(out: &mut [u8], from: usize, n: usize) -> usize {
-    let mut text = [0u8; 20];
-    let k = io::decimal(n as u64, &mut text);
-    case_text::put_all(out, from, &text[..k])
+    let mut text = Buffer::new();
+    case_text::put_all(out, from, text.format(n).as_bytes())
 }
 
 // Puts what the sign at a text's start stands for.
@@ -101,38 +101,44 @@ fn build(out: &mut [u8], text: &[u8]) -> usize {
     end
 }
 
-fn say_record(record: Record) {
-    say(b": done names=");
-    number(record.names);
-    say(b" rows=");
-    number(record.rows);
-    say(b" local=");
-    number(record.local);
-    say(b" start=");
-    number(record.start);
-    say(b" sole=");
-    number(record.sole);
+fn say_record(rt: &impl Print, record: Record) -> io::Result<()> {
+    say(rt, b": done names=")?;
+    number(rt, record.names)?;
+    say(rt, b" rows=")?;
+    number(rt, record.rows)?;
+    say(rt, b" local=")?;
+    number(rt, record.local)?;
+    say(rt, b" start=")?;
+    number(rt, record.start)?;
+    say(rt, b" sole=")?;
+    number(rt, record.sole)
 }
 
-fn say_tables(rows: &[u32], names: &[u32]) {
-    say(b" tables ");
-    number(case_text::digest(rows));
-    say(b" ");
-    number(case_text::digest(names));
+fn say_tables(rt: &impl Print, rows: &[u32], names: &[u32]) -> io::Result<()> {
+    say(rt, b" tables ")?;
+    number(rt, case_text::digest(rows))?;
+    say(rt, b" ")?;
+    number(rt, case_text::digest(names))
 }
 
-fn say_name(bytes: &[u8], record: Record, names: &[u32], i: usize) {
-    say(b" ");
-    number(i);
+fn say_name(
+    rt: &impl Print,
+    bytes: &[u8],
+    record: Record,
+    names: &[u32],
+    i: usize,
+) -> io::Result<()> {
+    say(rt, b" ")?;
+    number(rt, i)?;
     let place = names::name_place(bytes, record, names, i);
     match place {
-        Named::At(offset, length) => say(b"="),
+        Named::At(offset, length) => say(rt, b"=")?,
         Named::Refused(refusal) => {
-            say(b"!");
-            refusal_number(refusal);
+            say(rt, b"!")?;
+            refusal_number(rt, refusal)?;
         }
     }
-    say(names::name(bytes, record, names, i));
+    say(rt, names::name(bytes, record, names, i))
 }
 
 // Whether a name number is one of the first three, the last or the one after it.
@@ -146,41 +152,48 @@ fn is_shown(i: usize, count: usize) -> bool {
     i < 3
 }
 
-fn say_names(bytes: &[u8], record: Record, names: &[u32]) {
-    say(b" names");
+fn say_names(rt: &impl Print, bytes: &[u8], record: Record, names: &[u32]) -> io::Result<()> {
+    say(rt, b" names")?;
     let mut i = 0;
     while i <= 500 {
         if is_shown(i, record.names) {
-            say_name(bytes, record, names, i);
+            say_name(rt, bytes, record, names, i)?;
         }
         i += 1;
     }
+    Ok(())
 }
 
-fn report(bytes: &[u8], loaded: Loaded, rows: &[u32], names: &[u32]) {
+fn report(
+    rt: &impl Print,
+    bytes: &[u8],
+    loaded: Loaded,
+    rows: &[u32],
+    names: &[u32],
+) -> io::Result<()> {
     match loaded {
         Loaded::Done(record) => {
-            say_record(record);
-            say_tables(rows, names);
-            say_names(bytes, record, names);
+            say_record(rt, record)?;
+            say_tables(rt, rows, names)?;
+            say_names(rt, bytes, record, names)
         }
         Loaded::Refused(refusal, line) => {
-            say(b": refused ");
-            refusal_number(refusal);
-            say(b" at ");
-            number(line);
-            say_tables(rows, names);
+            say(rt, b": refused ")?;
+            refusal_number(rt, refusal)?;
+            say(rt, b" at ")?;
+            number(rt, line)?;
+            say_tables(rt, rows, names)
         }
     }
 }
 
-fn load_into(bytes: &[u8], rows: &mut [u32], names: &mut [u32]) {
+fn load_into(rt: &impl Print, bytes: &[u8], rows: &mut [u32], names: &mut [u32]) -> io::Result<()> {
     let loaded = load::load(bytes, rows, names);
-    report(bytes, loaded, rows, names);
+    report(rt, bytes, loaded, rows, names)
 }
 
 // After the sheet stands byte 10 throughout, so that a look past its end would find a line's end.
-fn load_case(text: &[u8]) {
+fn load_case(rt: &impl Print, text: &[u8]) -> io::Result<()> {
     let mut sheet_space = [10u8; 65540];
     let mut row_space = [7u32; 10010];
     let mut name_space = [7u32; 1510];
@@ -198,28 +211,34 @@ fn load_case(text: &[u8]) {
     );
     let end = case_text::least(build(bytes, case_text::after(rest, b'|')), bytes.len());
     let built = &bytes[..];
-    load_into(&built[0..end], &mut rows[0..r], &mut names[0..n]);
+    load_into(rt, &built[0..end], &mut rows[0..r], &mut names[0..n])
 }
 
-fn name_of(bytes: &[u8], record: Record, names: &[u32], i: usize) {
+fn name_of(
+    rt: &impl Print,
+    bytes: &[u8],
+    record: Record,
+    names: &[u32],
+    i: usize,
+) -> io::Result<()> {
     let place = names::name_place(bytes, record, names, i);
     match place {
         Named::At(offset, length) => {
-            say(b": at ");
-            number(offset);
-            say(b" ");
-            number(length);
+            say(rt, b": at ")?;
+            number(rt, offset)?;
+            say(rt, b" ")?;
+            number(rt, length)?;
         }
         Named::Refused(refusal) => {
-            say(b": refused ");
-            refusal_number(refusal);
+            say(rt, b": refused ")?;
+            refusal_number(rt, refusal)?;
         }
     }
-    say(b" ");
-    say(names::name(bytes, record, names, i));
+    say(rt, b" ")?;
+    say(rt, names::name(bytes, record, names, i))
 }
 
-fn name_case(text: &[u8]) {
+fn name_case(rt: &impl Print, text: &[u8]) -> io::Result<()> {
     let mut sheet_space = [0u8; 65540];
     let mut name_space = [0u32; 1510];
     let bytes: &mut [u8] = &mut sheet_space;
@@ -235,35 +254,37 @@ fn name_case(text: &[u8]) {
     let built = &bytes[..];
     let lent = &names[..];
     name_of(
+        rt,
         &built[0..end],
         case_text::read_record(case_text::before(text, b'|')),
         &lent[0..n],
         case_text::decimal(case_text::before(asked, b'|')),
-    );
+    )
 }
 
-fn one_case(text: &[u8]) {
-    say(case_text::before(text, b'|'));
+fn one_case(rt: &impl Print, text: &[u8]) -> io::Result<()> {
+    say(rt, case_text::before(text, b'|'))?;
     if case_text::nth(text, 0) == b'@' {
-        name_case(case_text::after(text, b'|'));
+        name_case(rt, case_text::after(text, b'|'))?;
     } else {
-        load_case(case_text::after(text, b'|'));
+        load_case(rt, case_text::after(text, b'|'))?;
     }
-    say(b"\n");
+    say(rt, b"\n")
 }
 
-fn cases(text: &[u8]) {
+fn cases(rt: &impl Print, text: &[u8]) -> io::Result<()> {
     let mut at = 0;
     while at < text.len() {
         let part = case_text::before(&text[at..], b'\n');
         let n = part.len();
-        one_case(part);
+        one_case(rt, part)?;
         at = case_text::past(text, at, n);
     }
+    Ok(())
 }
 
-fn main() {
-    let mut space = io::large_buffer();
-    let n = io::read_full(STDIN_FILENO, &mut space);
-    cases(&space[..n]);
+fn main(rt: HostRuntime) -> io::Result<()> {
+    let mut space = [0u8; 65536];
+    let n = frames::read_full(&mut rt.stdin(), &mut space)?;
+    cases(&rt, &space[..n])
 }
