@@ -2,7 +2,7 @@
 // number has no zero in front and at most 18 digits. A read that fails ends the reading with its error.
 #![tactic(auto)]
 
-ghost use Rattle.std.specs.Prelude.{◌≡◌, ◌≤◌, length, IfOk};
+ghost use Rattle.std.specs.Prelude.{◌≡◌, ◌≤◌, length, IfOk, OnErr};
 
 use std::io;
 use std::io::Read;
@@ -35,9 +35,11 @@ fn usize_of_byte(byte: u8) -> usize {
     byte as usize
 }
 
-// Reads until the slice is full or the input ends, and answers how many bytes came.
+// Reads until the slice is full or the input ends, and answers how many bytes came. An error is that of a read, which leaves in the slice
+// what came before it.
 pub fn read_full<R: Read>(input: &mut R, space: &mut [u8]) -> io::Result<usize>
-    ensures { IfOk result (λ n. n ≤ length space.old) }
+    ensures room { IfOk result (λ n. n ≤ length space.old) }
+    ensures failed { OnErr result (length space.new ≡ length space.old) }
 {
     let mut done = 0;
     while done < space.len() {
@@ -167,9 +169,10 @@ fn frame_of<R: Read>(input: &mut R, size: usize, space: &mut [u8]) -> io::Result
     })
 }
 
-// Reads the next frame into a slice.
+// Reads the next frame into a slice. An error is that of a read, which leaves in the slice what came before it.
 pub fn next_frame<R: Read>(input: &mut R, space: &mut [u8]) -> io::Result<Frame>
-    ensures { IfOk result (λ frame. frame.size ≤ length space.old) }
+    ensures room { IfOk result (λ frame. frame.size ≤ length space.old) }
+    ensures failed { OnErr result (length space.new ≡ length space.old) }
 {
     let start = start_of_frame(input)?;
     match start {
