@@ -171,6 +171,8 @@ def turn_edit(text, own):
 
 def turned(t, own, local=False):
     """A name outside the sources, also one that port.py has spelled already in them."""
+    if not t[:1].isalpha():  # a sign
+        return t
     return spelled(t, own) if t in own else snake(t) if ("-" in t or CAMEL.match(t)) and (snake(t) in own or local and CAMEL.match(t)) else t
 
 

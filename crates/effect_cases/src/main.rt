@@ -5,7 +5,7 @@
 // and unary.1. Three words stand for several rows: `x` is ident(path(seg.0)), `c` is ident(path(seg.1)), and `w` is w(x), a call that
 // writes, call.1(path(seg.2) ident(path(seg.0))). `[n:text]` is the text n times. lo and hi are free.
 //
-// Out come the rows of the first mention, with the iff of events skipped and included, `_` where there is none; then, where row 0 is a
+// Out come the rows of the first mention, with the iff of events skipped and included, `-` where there is none; then, where row 0 is a
 // statement, what stmt_no_ref says, and where it is an expression or a target, its effect and whether the local is written once its
 // value is true, and false. Rows whose ends or depth do not pass the check are refused: nobody may ask about them. A read or a write
 // that fails ends the run with its error.

@@ -23,7 +23,7 @@ pub data Forest : Type 0 where
   node : (kind side lo hi : ℕ) → (children others : Forest) → Forest
 
 -- "Rows stand in preorder; end is the number after the row's last descendant": the siblings that the rows from `from` up
--- to `to` spell. The first argument bounds how far the reading goes; `to _ from` is enough where the ends nest.
+-- to `to` spell. The first argument bounds how far the reading goes; `to - from` is enough where the ends nest.
 unfoldable pub tree_by : ℕ → List ℕ → ℕ → ℕ → Forest
 tree_by zero rows from to = nil
 tree_by (suc n) rows from to =
