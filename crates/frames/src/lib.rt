@@ -2,7 +2,9 @@
 // number has no zero in front and at most 18 digits. A read that fails ends the reading with its error.
 #![tactic(auto)]
 
-ghost use Rattle.std.specs.Prelude.{◌≡◌, ◌≤◌, length, IfOk, OnErr};
+ghost use Rattle.std.specs.Prelude.{◌≡◌, ◌≤◌, length, take, IfOk, OnErr};
+ghost use Rattle.std.specs.Io.KnownBytes.{Consumes};
+ghost use Rattle.frames.specs.Inputs.{Advances, AdvancesInto};
 
 use std::io;
 use std::io::Read;
@@ -39,7 +41,9 @@ fn usize_of_byte(byte: u8) -> usize {
 // what came before it.
 pub fn read_full<R: Read>(input: &mut R, space: &mut [u8]) -> io::Result<usize>
     ensures room { IfOk result (λ n. n ≤ length space.old) }
-    ensures failed { OnErr result (length space.new ≡ length space.old) }
+    ensures bytes { IfOk result (λ n. Consumes (R.remaining input.old) (R.remaining input.new) (take n space.new)) }
+    ensures failed { OnErr result (AdvancesInto (R.remaining input.old) (R.remaining input.new) space.new) }
+    ensures advances { Advances (R.remaining input.old) (R.remaining input.new) }
 {
     let mut done = 0;
     while done < space.len() {
@@ -53,7 +57,9 @@ pub fn read_full<R: Read>(input: &mut R, space: &mut [u8]) -> io::Result<usize>
 }
 
 // The next byte, or 256 where the input has ended.
-fn next_byte<R: Read>(input: &mut R) -> io::Result<usize> {
+fn next_byte<R: Read>(input: &mut R) -> io::Result<usize>
+    ensures { Advances (R.remaining input.old) (R.remaining input.new) }
+{
     let mut one = [0u8; 1];
     let got = read_full(input, &mut one)?;
     if got == 0 {
@@ -78,7 +84,9 @@ fn with_digit(size: usize, byte: usize) -> usize {
 }
 
 // The rest of a size's line, after its first digit.
-fn rest_of_size<R: Read>(input: &mut R, first: usize) -> io::Result<Start> {
+fn rest_of_size<R: Read>(input: &mut R, first: usize) -> io::Result<Start>
+    ensures { Advances (R.remaining input.old) (R.remaining input.new) }
+{
     let mut size = first;
     let mut left: usize = 18;
     while 0 < left {
@@ -98,7 +106,9 @@ fn rest_of_size<R: Read>(input: &mut R, first: usize) -> io::Result<Start> {
     Ok(Start::NoSize)
 }
 
-fn start_of_frame<R: Read>(input: &mut R) -> io::Result<Start> {
+fn start_of_frame<R: Read>(input: &mut R) -> io::Result<Start>
+    ensures { Advances (R.remaining input.old) (R.remaining input.new) }
+{
     let byte = next_byte(input)?;
     if byte == 256 {
         return Ok(Start::Nothing);
@@ -121,7 +131,8 @@ fn least(a: usize, b: usize) -> usize
 
 // Passes over some of so many bytes, and answers how many; 0 where the input has ended.
 fn pass_some<R: Read>(input: &mut R, bytes: usize) -> io::Result<usize>
-    ensures { IfOk result (λ n. n ≤ bytes) }
+    ensures bound { IfOk result (λ n. n ≤ bytes) }
+    ensures advances { Advances (R.remaining input.old) (R.remaining input.new) }
 {
     let mut space = [0u8; 4096];
     let part: &mut [u8] = &mut space;
@@ -130,7 +141,9 @@ fn pass_some<R: Read>(input: &mut R, bytes: usize) -> io::Result<usize>
 }
 
 // Passes over so many bytes; false where the input ends before.
-fn pass_over<R: Read>(input: &mut R, bytes: usize) -> io::Result<bool> {
+fn pass_over<R: Read>(input: &mut R, bytes: usize) -> io::Result<bool>
+    ensures { Advances (R.remaining input.old) (R.remaining input.new) }
+{
     let mut left = bytes;
     while 0 < left {
         let n = pass_some(input, left)?;
@@ -153,7 +166,8 @@ fn no_frame(came: Came) -> Frame
 
 // Keeps as many of a frame's bytes as the slice holds, and passes over the rest.
 fn frame_of<R: Read>(input: &mut R, size: usize, space: &mut [u8]) -> io::Result<Frame>
-    ensures { IfOk result (λ frame. frame.size ≤ length space.old) }
+    ensures room { IfOk result (λ frame. frame.size ≤ length space.old) }
+    ensures advances { Advances (R.remaining input.old) (R.remaining input.new) }
 {
     let kept = least(size, space.len());
     let got = read_full(input, &mut space[0..kept])?;
@@ -169,10 +183,10 @@ fn frame_of<R: Read>(input: &mut R, size: usize, space: &mut [u8]) -> io::Result
     })
 }
 
-// Reads the next frame into a slice. An error is that of a read, which leaves in the slice what came before it.
+// Reads the next frame into a slice. An error is that of a read. Whatever comes of it, the input has given some bytes and no others.
 pub fn next_frame<R: Read>(input: &mut R, space: &mut [u8]) -> io::Result<Frame>
     ensures room { IfOk result (λ frame. frame.size ≤ length space.old) }
-    ensures failed { OnErr result (length space.new ≡ length space.old) }
+    ensures advances { Advances (R.remaining input.old) (R.remaining input.new) }
 {
     let start = start_of_frame(input)?;
     match start {
