@@ -23,6 +23,13 @@ pub enum Refusal {
     NoName,
 }
 
+// A refusal, and the place that is told with it: a line, a row, or 0 where it has none.
+#[derive(Clone, Copy)]
+pub struct Refused {
+    pub refusal: Refusal,
+    pub place: usize,
+}
+
 // Document 01's number of a refusal.
 pub fn number_of(refusal: Refusal) -> usize
     ensures { result ≡ refusal_number refusal }
