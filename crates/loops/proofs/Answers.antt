@@ -3,23 +3,20 @@
 use Prim.Native.Nat.{ℕ, ◌+◌, ◌≤◌, ◌<◌}
 use mathlib.Core.Path.{◌≡◌, refl, sym, ap, ◌∙◌}
 use mathlib.Core.Bool.{Bool, true, false, ◌&&◌, ◌||◌, not}
-use mathlib.Core.List.{List, [], ◌∷◌}
+use mathlib.Core.List.{List}
 use native.Mathlib.Omega.{arith}
 use lib.Dec.{eqb, leb}
-use borrow.Author.Tests.{le-leb, lt-leb, ne_eqb, eqb-true}
-use denote.Enum.Declared.{tag_of}
-use types.Run.{OneOf}
+use borrow.Author.Tests.{ne_eqb, eqb-true}
 use Rattle.table.specs.Rows.{kind_at, side_at, end_at, tree, Nested}
 use Rattle.table.specs.Fold.{Alg, fold, nth}
 use Rattle.table.proofs.Fold.{fold_none, fold_some, fold_step}
 use Rattle.table.proofs.Ranges.{later}
 use Rattle.kinds.specs.declared.StmtClass.{StmtClass}
+use Rattle.kinds.specs.declared.StmtClass.TheVariants.{Disable, Return, Absent, Match, Default, Decl, Blocking, Nonblocking, If, Case, For, While, Repeat, Forever, Block, Fork, Systask, Task, Delayctrl, Eventctrl, Wait, Null, Unmodelled, NoStmt}
 use Rattle.kinds.specs.Kinds.{kinds, S, entry, class_number, of_class, is_kind, in_class}
 use Rattle.kinds.specs.Words.{same, place_from, kind_of}
 use Rattle.kinds.specs.Named.{kind_number, numbered, stmt_class}
 use Rattle.kinds.proofs.Below.{both_true}
-use Rattle.kinds.specs.contracts.StmtClass.{the_type}
-use Rattle.kinds.proofs.Classes.{last_arm}
 use Rattle.checks.specs.Checks.{kind_alone}
 use Rattle.loops.specs.Escape.{transfers, cannot_escape_at, cannot_escape, stmt_cannot_escape, EscapeTold}
 use Rattle.loops.specs.Time.{waiting_words, is_one_of, lets_time_pass, advances_at, advances_time, stmt_advances_time, TimeTold}
@@ -29,18 +26,35 @@ use Rattle.loops.proofs.Staying.{never_jumps, stay_first}
 use Rattle.loops.proofs.EscapeArms.{arms_escape}
 use Rattle.loops.proofs.TimeArms.{fair, arms_time}
 
--- transfers_control: the tags of the classes that transfer none, after the first
-abbrev other_tags : List ℕ
-other_tags = 1 ∷ 2 ∷ 3 ∷ 4 ∷ 5 ∷ 6 ∷ 8 ∷ 9 ∷ 10 ∷ 11 ∷ 12 ∷ 13 ∷ 14 ∷ 15 ∷ 16 ∷ 17 ∷ 18 ∷ 19 ∷ 21 ∷ 22 ∷ 23 ∷ []
+-- transfers_control: the classes that transfer none
+transfers_none : (c : StmtClass) → (c ≡ Disable → ⊥) → (c ≡ Return → ⊥) → false ≡ transfers c
+transfers_none Disable d r = elim (d refl) [ ]
+transfers_none Return d r = elim (r refl) [ ]
+transfers_none Absent d r = refl
+transfers_none Match d r = refl
+transfers_none Default d r = refl
+transfers_none Decl d r = refl
+transfers_none Blocking d r = refl
+transfers_none Nonblocking d r = refl
+transfers_none If d r = refl
+transfers_none Case d r = refl
+transfers_none For d r = refl
+transfers_none While d r = refl
+transfers_none Repeat d r = refl
+transfers_none Forever d r = refl
+transfers_none Block d r = refl
+transfers_none Fork d r = refl
+transfers_none Systask d r = refl
+transfers_none Task d r = refl
+transfers_none Delayctrl d r = refl
+transfers_none Eventctrl d r = refl
+transfers_none Wait d r = refl
+transfers_none Null d r = refl
+transfers_none Unmodelled d r = refl
+transfers_none NoStmt d r = refl
 
-module _ (rows : List ℕ) (i n : ℕ) (c : StmtClass) (p : n ≡ kind_at rows i) (q : c ≡ stmt_class n) where
-  pub transfers_named : (class : StmtClass) (r : Bool) → c ≡ class → r ≡ transfers class → r ≡ transfers (stmt_class (kind_at rows i))
-  transfers_named class r e v = rw (← p, ← q, e) v
-
-  pub transfers_other : OneOf (0 ∷ other_tags) (tag_of the_type c) → false ≡ transfers (stmt_class (kind_at rows i))
-  transfers_other o = rw (← p, ← q) (sym (last_arm transfers false 0 other_tags c refl o))
-
-pub ruleset transfers_answers = (transfers_named, transfers_other)
+pub transfers_other : (rows : List ℕ) (i : ℕ) {n : ℕ} {c : StmtClass} → n ≡ kind_at rows i → c ≡ stmt_class n → (c ≡ Disable → ⊥) → (c ≡ Return → ⊥) → false ≡ transfers (stmt_class (kind_at rows i))
+transfers_other rows i {c = c} p q d r = rw (← p, ← q) (transfers_none c d r)
 
 -- lets_time_pass, by the words' numbers
 abbrev by_number : ℕ → ℕ → Bool
@@ -73,19 +87,23 @@ pub ruleset time_answers = (waits_named, task_waits, waits_other)
 pub next_nested : {rows : List ℕ} {i to : ℕ} → Nested rows i to → i < to → Nested rows (i + 1) to
 next_nested {i = i} g h = later g (i + 1) (omega arith) (omega arith)
 
+-- the rows from row i of some on
+pub from_row : {rows : List ℕ} {from to i : ℕ} → Nested rows from to → from ≤ i → i < to → Nested rows i to
+from_row {i = i} g a h = later g i a (omega arith)
+
 -- the loops: what they keep is that the answer is that of the rows from i on
 module _ (rows : List ℕ) (from to i : ℕ) (v : cannot_escape (tree rows from to) ≡ cannot_escape (tree rows i to)) where
-  pub escape_done : to ≤ i → leb to i ≡ cannot_escape (tree rows from to)
+  pub escape_done : to ≤ i → true ≡ cannot_escape (tree rows from to)
   unfolding cannot_escape cannot_escape_at
-  escape_done h = le-leb to i h ∙ sym (v ∙ flat_none by_and (λ k s cs. not (transfers (stmt_class k))) rows i to h)
+  escape_done h = sym (v ∙ flat_none by_and (λ k s cs. not (transfers (stmt_class k))) rows i to h)
 
   module _ (g : Nested rows i to) (h : i < to) (b : Bool) (e : b ≡ transfers (stmt_class (kind_at rows i))) where
     escape_row : cannot_escape (tree rows from to) ≡ not b && cannot_escape (tree rows (i + 1) to)
     unfolding cannot_escape cannot_escape_at
     escape_row = v ∙ rw e (flat_step by_and (λ k s cs. not (transfers (stmt_class k))) g h)
 
-    pub escape_hit : b ≡ true → leb to i ≡ cannot_escape (tree rows from to)
-    escape_hit y = lt-leb to i h ∙ sym (escape_row ∙ rw y)
+    pub escape_hit : b ≡ true → false ≡ cannot_escape (tree rows from to)
+    escape_hit y = sym (escape_row ∙ rw y)
 
     pub escape_miss : b ≡ false → cannot_escape (tree rows from to) ≡ cannot_escape (tree rows (i + 1) to)
     escape_miss y = escape_row ∙ rw y

@@ -2,13 +2,14 @@
 // pass each over the rows of a range.
 #![tactic(auto)]
 
-ghost use Rattle.std.specs.Prelude.{◌≡◌, ◌+◌, ◌*◌, ◌<◌, length, leb};
+ghost use Rattle.std.specs.Prelude.{◌≡◌, ◌+◌, ◌*◌, ◌<◌, length};
 ghost use Rattle.kinds.specs.Named.{stmt_class};
-ghost use Rattle.table.specs.Rows.{Nested, tree, kind_at, side_at};
+ghost use Rattle.table.specs.Rows.{tree, kind_at, side_at};
 ghost use Rattle.loops.specs.Escape.{transfers, cannot_escape, EscapeTold};
 ghost use Rattle.loops.specs.Time.{lets_time_pass, advances_time, TimeTold};
 
 use kinds::StmtClass;
+use table::Siblings;
 
 // Whether row i itself transfers control.
 fn transfers_control(rows: &[u32], i: usize) -> bool
@@ -16,35 +17,22 @@ fn transfers_control(rows: &[u32], i: usize) -> bool
     ensures { result ≡ transfers (stmt_class (kind_at rows.now i)) }
 {
     match kinds::stmt_class(table::kind_at(rows, i)) {
-        StmtClass::Disable => true,
-        StmtClass::Return => true,
+        StmtClass::Disable | StmtClass::Return => true,
         _ => false,
     }
 }
 
-// The first of the rows from `from` up to `to` that transfers control, or `to`; told is only whether there is one. A number and no bool,
-// since a bool as the loop's answer costs one instruction more a row, and a loop's body is scanned once for each loop around it.
-fn first_transfer(rows: &[u32], from: usize, to: usize) -> usize
-    requires { Nested rows.now from to }
-    ensures { leb to result ≡ cannot_escape (tree rows.now from to) }
+// stmt_cannot_escape: none of these rows transfers control.
+pub fn stmt_cannot_escape(rows: Siblings) -> bool
+    ensures value { result ≡ cannot_escape (tree rows.entry.table.now rows.entry.from rows.entry.to) }
+    ensures arms { EscapeTold rows.entry.table.now rows.entry.from rows.entry.to result }
 {
-    let mut i = from;
-    while i < to {
-        if transfers_control(rows, i) {
-            return i;
+    for i in rows.from..rows.to {
+        if transfers_control(rows.table, i) {
+            return false;
         }
-        i += 1;
     }
-    i
-}
-
-// stmt_cannot_escape: no row from `from` up to `to` transfers control.
-pub fn stmt_cannot_escape(rows: &[u32], from: usize, to: usize) -> bool
-    requires { Nested rows.now from to }
-    ensures value { result ≡ cannot_escape (tree rows.now from to) }
-    ensures arms { EscapeTold rows.now from to result }
-{
-    to <= first_transfer(rows, from, to)
+    true
 }
 
 // Whether row i itself lets time pass, a task by whether it suspends.
@@ -64,18 +52,15 @@ fn lets_time_pass(rows: &[u32], i: usize) -> bool
     }
 }
 
-// stmt_advances_time: a row from `from` up to `to` lets time pass.
-pub fn stmt_advances_time(rows: &[u32], from: usize, to: usize) -> bool
-    requires { Nested rows.now from to }
-    ensures value { result ≡ advances_time (tree rows.now from to) }
-    ensures arms { TimeTold rows.now from to result }
+// stmt_advances_time: one of these rows lets time pass.
+pub fn stmt_advances_time(rows: Siblings) -> bool
+    ensures value { result ≡ advances_time (tree rows.entry.table.now rows.entry.from rows.entry.to) }
+    ensures arms { TimeTold rows.entry.table.now rows.entry.from rows.entry.to result }
 {
-    let mut i = from;
-    while i < to {
-        if lets_time_pass(rows, i) {
+    for i in rows.from..rows.to {
+        if lets_time_pass(rows.table, i) {
             return true;
         }
-        i += 1;
     }
     false
 }

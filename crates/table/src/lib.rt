@@ -1,10 +1,11 @@
 // Rows of a lent table, five numbers a row: kind, side, lo, hi, end. The readers ask that the row is in the table; `row_end`
-// and `next_at` also tell that what they step to nests, so that whoever walks a tree has its premise from the call.
+// and `next_at` also tell that what they step to nests. Whoever walks a tree has that from the types: `Siblings` and `Node` are parts of a
+// table whose ends nest.
 #![tactic(auto)]
 
-ghost use Rattle.std.specs.Prelude.{◌≡◌, ◌+◌, ◌*◌, ◌<◌, length};
+ghost use Rattle.std.specs.Prelude.{◌≡◌, ◌+◌, ◌*◌, ◌<◌, length, ltb, is_some, IfSome};
 ghost use Rattle.table.specs.Rows.{kind_at, side_at, lo_at, hi_at, end_at, Nested};
-ghost use Rattle.table.specs.Steps.{RowEnd, NextRow};
+ghost use Rattle.table.specs.Steps.{RowEnd, NextRow, RowAlone, next_of};
 
 // A number of the table as an index.
 pub fn wide(x: u32) -> usize
@@ -62,4 +63,75 @@ pub fn next_at(rows: &[u32], i: usize, to: usize) -> usize
     ensures { NextRow rows.now i to result }
 {
     if i < to { end_at(rows, i) } else { to }
+}
+
+// The rows from `from` up to `to` of a table: siblings, with what they hold.
+#[derive(Clone, Copy)]
+pub struct Siblings<'a> {
+    pub table: &'a [u32],
+    pub from: usize,
+    pub to: usize,
+    pub ghost nested: { Nested table.now from to },
+}
+
+// Row `at` of a table, with what it holds: the rows up to `end`.
+#[derive(Clone, Copy)]
+pub struct Node<'a> {
+    pub table: &'a [u32],
+    pub at: usize,
+    pub end: usize,
+    pub ghost alone: { RowAlone table.now at end },
+}
+
+impl<'a> Siblings<'a> {
+    // The first of them, if there is one.
+    pub fn first(self) -> Option<Node<'a>>
+        ensures some { is_some result ≡ ltb self.entry.from self.entry.to }
+        ensures is { IfSome result (λ row. (row.table.now ≡ self.entry.table.now) × ((row.at ≡ self.entry.from) × (row.end ≡ end_at self.entry.table.now self.entry.from))) }
+    {
+        if self.from < self.to {
+            return Some(Node {
+                table: self.table,
+                at: self.from,
+                end: row_end(self.table, self.from, self.to),
+            });
+        }
+        None
+    }
+
+    // Those after the first.
+    pub fn rest(self) -> Siblings<'a>
+        ensures { (result.table.now ≡ self.entry.table.now) × ((result.from ≡ next_of self.entry.table.now self.entry.from self.entry.to) × (result.to ≡ self.entry.to)) }
+    {
+        Siblings {
+            table: self.table,
+            from: next_at(self.table, self.from, self.to),
+            to: self.to,
+        }
+    }
+}
+
+impl<'a> Node<'a> {
+    pub fn kind(self) -> usize
+        ensures { result ≡ kind_at self.entry.table.now self.entry.at }
+    {
+        kind_at(self.table, self.at)
+    }
+
+    pub fn side(self) -> usize
+        ensures { result ≡ side_at self.entry.table.now self.entry.at }
+    {
+        side_at(self.table, self.at)
+    }
+
+    // What it holds.
+    pub fn children(self) -> Siblings<'a>
+        ensures { (result.table.now ≡ self.entry.table.now) × ((result.from ≡ self.entry.at + 1) × (result.to ≡ self.entry.end)) }
+    {
+        Siblings {
+            table: self.table,
+            from: self.at + 1,
+            to: self.end,
+        }
+    }
 }
