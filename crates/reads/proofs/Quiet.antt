@@ -10,7 +10,7 @@ use lib.Dec.{ltb, eqb}
 use borrow.Author.Rules.{rules}
 use borrow.Author.Tests.{ltb-true, ltb-false, eqb-true, eqb-false, ne_eqb, not-true, not-false}
 use Rattle.table.specs.Rows.{kind_at, side_at, end_at, tree, Nested}
-use Rattle.table.proofs.Ranges.{ends_within, children}
+use Rattle.table.proofs.Ranges.{later, ends_within, children}
 use Rattle.table.proofs.Tree.{tree_none, tree_some}
 use Rattle.kinds.specs.declared.ExprClass.{ExprClass}
 use Rattle.kinds.specs.declared.ExprClass.TheVariants.{Ident, Call, Lident}
@@ -66,11 +66,11 @@ module _ (x : ℕ) (rows : List ℕ) (i : ℕ) where
     pub quiet_after : 41 ≤ k → ((k ≡ 41) ⊎ (k ≡ 60) → ⊥) → (k ≡ 54 → ⊥) → (k ≡ 59 → ⊥) → true ≡ true → Quiet x rows i
     quiet_after h path call opaque t = by_content (ap (λ j. role_of (expr_class j)) (sym e) ∙ content k (λ q. omega arith) (λ q. path (inl q)) call opaque (λ q. path (inr q)))
 
-  module _ (to : ℕ) (b : Bool) (g : Nested rows i to) (h : i < to) (n : b ≡ true → i + 2 < to → side_at rows (i + 2) ≡ x → ⊥) where
+  module _ (from to : ℕ) (b : Bool) (g : Nested rows from to) (a : from ≤ i) (h : i < to) (n : b ≡ true → i + 2 < to → side_at rows (i + 2) ≡ x → ⊥) where
     by_path : (c : ExprClass) → c ≡ expr_class (kind_at rows i) → role_of c ≡ ByPath → (c ≡ Call → side_at rows i ≡ 1 → ⊥) → b ≡ true → Quiet x rows i
     by_path c e role w t =
         let two : i + 1 + 1 ≡ i + 2 = omega arith in
-        let headless : begins x (tree rows (i + 1) (end_at rows i)) ≡ false = path_other x (children g h) (ltb (i + 1) (end_at rows i)) refl (λ l. rw two (n t (omega (arith, ends_within g h)))) in
+        let headless : begins x (tree rows (i + 1) (end_at rows i)) ≡ false = path_other x (children (later g i a (omega arith)) h) (ltb (i + 1) (end_at rows i)) refl (λ l. rw two (n t (omega (arith, ends_within (later g i a (omega arith)) h)))) in
         record {
           unmentioning = rw (← e, role, headless);
           eventless = rw (← e, role);

@@ -3,13 +3,15 @@
 
 ghost use Rattle.std.specs.Prelude.{◌≡◌, true, ◌+◌, ◌*◌, ◌≤◌, ◌<◌, length};
 ghost use Rattle.kinds.specs.Named.{expr_class};
-ghost use Rattle.table.specs.Rows.{Nested, tree, kind_at, side_at};
+ghost use Rattle.table.specs.Rows.{kind_at, side_at};
+ghost use Rattle.table.specs.Siblings.{forest};
 ghost use Rattle.reads.specs.PathRows.{begins, segments as segments_of};
 ghost use Rattle.reads.specs.Mentions.{role_of, mentions_at, skips_iff, mention_in, MentionTold};
 ghost use Rattle.reads.specs.Steps.{Quiet, AfterQuiet};
 ghost use Rattle.reads.specs.NoRef.{expr_no_ref, lvalue_no_ref, sensitivity_no_ref, intra_event_no_ref, stmt_no_ref, vetted, two_segments};
 
 use kinds::{ExprClass, StmtClass};
+use table::{Node, Siblings};
 
 // Whether the iff of an event is looked at.
 #[derive(Clone, Copy)]
@@ -43,46 +45,35 @@ fn role_of(class: ExprClass) -> Role
     }
 }
 
-fn role_at(rows: &[u32], i: usize) -> Role
-    requires { 5 * i + 4 < length rows.now }
-    ensures { result ≡ role_of (expr_class (kind_at rows.now i)) }
+// Whether the first of these rows is a path that begins with the local.
+pub fn begins_with(rows: Siblings, local: usize) -> bool
+    ensures { result ≡ begins local (forest rows.entry) }
 {
-    role_of(kinds::expr_class(table::kind_at(rows, i)))
-}
-
-// Whether the first of the rows from `from` up to `to` is a path that begins with the local.
-#[tactic(auto, using(crate::proofs::Answers::begins_answers))]
-pub fn begins_with(rows: &[u32], local: usize, from: usize, to: usize) -> bool
-    requires { Nested rows.now from to }
-    ensures { result ≡ begins local (tree rows.now from to) }
-{
-    if to <= from {
+    let Some(path) = rows.first() else {
         return false;
+    };
+    match path.children().first() {
+        Some(segment) => segment.side() == local,
+        None => false,
     }
-    let end = table::row_end(rows, from, to);
-    let segment = from + 1;
-    segment < end && table::side_at(rows, segment) == local
 }
 
-// Whether row i, the first of the rows i up to `to`, is itself a mention.
-#[tactic(auto, using(crate::proofs::Answers::role_answers))]
-fn is_mention(rows: &[u32], local: usize, i: usize, to: usize) -> bool
-    requires { (Nested rows.now i to) × (i < to) }
-    ensures { result ≡ mentions_at local rows.now i }
+// Whether a row is itself a mention.
+fn is_mention(row: Node, local: usize) -> bool
+    ensures { result ≡ mentions_at local row.entry.table.now row.entry.at }
 {
-    match role_at(rows, i) {
-        Role::ByPath => begins_with(rows, local, i + 1, table::row_end(rows, i, to)),
+    match role_of(kinds::expr_class(row.kind())) {
+        Role::ByPath => begins_with(row.children(), local),
         Role::Always => true,
         Role::HasIff | Role::ByContent => false,
     }
 }
 
-// Whether row i is an event whose iff the pass leaves out.
-fn skips_iff(rows: &[u32], iff: Iff, i: usize) -> bool
-    requires { 5 * i + 4 < length rows.now }
-    ensures { result ≡ skips_iff iff (expr_class (kind_at rows.now i)) }
+// Whether a row is an event whose iff the pass leaves out.
+fn skips_iff(row: Node, iff: Iff) -> bool
+    ensures { result ≡ skips_iff iff (expr_class (kind_at row.entry.table.now row.entry.at)) }
 {
-    matches!(iff, Iff::Skipped) && matches!(role_at(rows, i), Role::HasIff)
+    matches!(iff, Iff::Skipped) && matches!(role_of(kinds::expr_class(row.kind())), Role::HasIff)
 }
 
 // Whether row i, where the first segment of a path would stand, is not below `to` or is not named as the local is.
@@ -94,139 +85,148 @@ fn names_other(rows: &[u32], local: usize, i: usize, to: usize) -> bool
 }
 
 // Whether row i, a call, plainly neither begins with the local nor writes it.
-fn is_quiet_call(rows: &[u32], local: usize, i: usize, to: usize) -> bool
-    requires { (Nested rows.now i to) × (i < to) × (kind_at rows.now i ≡ 54) }
-    ensures { result ≡ true → Quiet local rows.now i }
+fn is_quiet_call(rows: Siblings, local: usize, i: usize) -> bool
+    requires { (rows.from ≤ i) × (i < rows.to) × (kind_at rows.table.now i ≡ 54) }
+    ensures { result ≡ true → Quiet local rows.entry.table.now i }
 {
-    let writes = table::side_at(rows, i) == 1;
-    !writes && names_other(rows, local, i + 2, to)
+    let writes = table::side_at(rows.table, i) == 1;
+    !writes && names_other(rows.table, local, i + 2, rows.to)
 }
 
-// Whether row i, the first of the rows i up to `to`, is plainly quiet; a no says nothing. Expressions and targets have numbers from 40 on,
+// Whether row i, one of these rows or below one, is plainly quiet; a no says nothing. Expressions and targets have numbers from 40 on,
 // the first being `lit`, which refers to nothing, and of the kinds before them only an event, 7, is looked at for itself. A path's
 // first segment stands two rows after the row that has the path, so where it is not the local, no more is asked. Kinds are told by their
 // numbers here, not by their classes: this is asked of more rows than anything else.
-fn is_quiet(rows: &[u32], local: usize, i: usize, to: usize) -> bool
-    requires { (Nested rows.now i to) × (i < to) }
-    ensures { result ≡ true → Quiet local rows.now i }
+fn is_quiet(rows: Siblings, local: usize, i: usize) -> bool
+    requires { (rows.from ≤ i) × (i < rows.to) }
+    ensures { result ≡ true → Quiet local rows.entry.table.now i }
 {
-    let kind = table::kind_at(rows, i);
+    let kind = table::kind_at(rows.table, i);
     if kind < 41 {
         return kind != 7;
     }
     match kind {
-        41 | 60 => names_other(rows, local, i + 2, to), // ident, lident
-        54 => is_quiet_call(rows, local, i, to), // call
+        41 | 60 => names_other(rows.table, local, i + 2, rows.to), // ident, lident
+        54 => is_quiet_call(rows, local, i), // call
         59 => false, // opaque
         _ => true,
     }
 }
 
-// A row from i on, up to `to`, before which all are quiet: the first that is not plainly so. Nothing is told of that row.
-pub fn after_quiet(rows: &[u32], local: usize, i: usize, to: usize) -> usize
-    requires { Nested rows.now i to }
-    ensures { AfterQuiet local rows.now i to result }
+// These rows from one on before which all are quiet: the first that is not plainly so. Nothing is told of that row.
+pub fn after_quiet(rows: Siblings, local: usize) -> Siblings
+    ensures quiet { AfterQuiet local rows.entry.table.now rows.entry.from rows.entry.to result.from }
+    ensures same { (result.table.now ≡ rows.entry.table.now) × (result.to ≡ rows.entry.to) }
 {
-    for next in i..to {
-        if !is_quiet(rows, local, next, to) {
-            return next;
+    for from in rows.from..rows.to {
+        if !is_quiet(rows, local, from) {
+            return Siblings {
+                table: rows.table,
+                from,
+                to: rows.to,
+            };
         }
     }
-    to
+    Siblings {
+        table: rows.table,
+        from: rows.to,
+        to: rows.to,
+    }
 }
 
-// The first mention among the rows from `from` up to `to`, in row order. At an event whose iff is skipped the pass looks at
-// the event's expression and goes on after the event.
-pub fn first_mention(rows: &[u32], iff: Iff, local: usize, from: usize, to: usize) -> Option<usize>
-    requires { Nested rows.now from to }
-    ensures value { result ≡ mention_in iff local rows.now from to }
-    ensures means { MentionTold iff local rows.now from to result }
+// These rows without the first, which there is: what it holds, and the siblings after it.
+fn after_row(rows: Siblings) -> Siblings
+    requires { rows.from < rows.to }
+    ensures { (result.table.now ≡ rows.entry.table.now) × ((result.from ≡ rows.entry.from + 1) × (result.to ≡ rows.entry.to)) }
 {
-    let mut i = after_quiet(rows, local, from, to);
-    while i < to {
-        if is_mention(rows, local, i, to) {
-            return Some(i);
+    Siblings {
+        table: rows.table,
+        from: rows.from + 1,
+        to: rows.to,
+    }
+}
+
+// The first mention among these rows, in row order. At an event whose iff is skipped the pass looks at the event's expression and goes on
+// after the event.
+pub fn first_mention(rows: Siblings, iff: Iff, local: usize) -> Option<usize>
+    ensures value { result ≡ mention_in iff local rows.entry.table.now rows.entry.from rows.entry.to }
+    ensures means { MentionTold iff local rows.entry.table.now rows.entry.from rows.entry.to result }
+{
+    let mut left = after_quiet(rows, local);
+    while let Some(row) = left.first() {
+        if is_mention(row, local) {
+            return Some(row.at);
         }
-        if skips_iff(rows, iff, i) {
-            let end = table::row_end(rows, i, to);
-            let next = table::next_at(rows, i + 1, end);
-            if let Some(row) = first_mention(rows, iff, local, i + 1, next) {
-                return Some(row);
+        if skips_iff(row, iff) {
+            if let Some(mention) = first_mention(row.children().head(), iff, local) {
+                return Some(mention);
             }
-            i = after_quiet(rows, local, end, to);
+            left = after_quiet(left.rest(), local);
         } else {
-            i = after_quiet(rows, local, i + 1, to);
+            left = after_quiet(after_row(left), local);
         }
     }
     None
 }
 
-// Whether no row from `from` up to `to` refers to the local, which is the answer of four of the Rust's functions: of an expression or each
+// Whether none of these rows refers to the local, which is the answer of four of the Rust's functions: of an expression or each
 // of a list of them; of a target, and the expressions of its selects; of a sensitivity, where a star names nothing and of an event its
 // expression counts, not its iff; and of an event control within an assignment, its repeat count, where there is one, and its sensitivity.
 // Most often every row is quiet, or the first that is not is a mention; the pass is asked only otherwise.
-#[tactic(auto, using(crate::proofs::Answers::no_ref_answers))]
-pub fn no_ref(rows: &[u32], local: usize, from: usize, to: usize) -> bool
-    requires { Nested rows.now from to }
-    ensures expr { result ≡ expr_no_ref local (tree rows.now from to) }
-    ensures lvalue { result ≡ lvalue_no_ref local (tree rows.now from to) }
-    ensures sensitivity { result ≡ sensitivity_no_ref local (tree rows.now from to) }
-    ensures intra_event { result ≡ intra_event_no_ref local (tree rows.now from to) }
+pub fn no_ref(rows: Siblings, local: usize) -> bool
+    ensures expr { result ≡ expr_no_ref local (forest rows.entry) }
+    ensures lvalue { result ≡ lvalue_no_ref local (forest rows.entry) }
+    ensures sensitivity { result ≡ sensitivity_no_ref local (forest rows.entry) }
+    ensures intra_event { result ≡ intra_event_no_ref local (forest rows.entry) }
 {
-    let next = after_quiet(rows, local, from, to);
-    to <= next
-        || (!is_mention(rows, local, next, to)
-            && first_mention(rows, Iff::Skipped, local, next, to).is_none())
+    let left = after_quiet(rows, local);
+    match left.first() {
+        Some(row) => !is_mention(row, local) && first_mention(left, Iff::Skipped, local).is_none(),
+        None => true,
+    }
 }
 
-// How many segments the path has that is the first of the rows from `from` up to `to`; 0 where there is none.
-pub fn segments(rows: &[u32], from: usize, to: usize) -> usize
-    requires { Nested rows.now from to }
-    ensures { result ≡ segments_of (tree rows.now from to) }
+// How many segments the path has that is the first of these rows; 0 where there is none.
+pub fn segments(rows: Siblings) -> usize
+    ensures { result ≡ segments_of (forest rows.entry) }
 {
-    if to <= from {
+    let Some(path) = rows.first() else {
         return 0;
-    }
-    let end = table::row_end(rows, from, to);
-    let mut i = from + 1;
+    };
+    let mut left = path.children();
     let mut counted = 0;
-    while i < end {
-        i = table::row_end(rows, i, end);
+    while !left.is_empty() {
+        left = left.rest();
         counted += 1;
     }
     counted
 }
 
 // stmt_no_ref's arm of a task, over its children: a path of two segments that does not begin with the local, and arguments.
-#[tactic(auto, using(crate::proofs::Answers::task_answers))]
-fn task_no_ref(rows: &[u32], local: usize, from: usize, to: usize) -> bool
-    requires { Nested rows.now from to }
-    ensures { result ≡ vetted two_segments local (tree rows.now from to) }
+fn task_no_ref(rows: Siblings, local: usize) -> bool
+    ensures { result ≡ vetted two_segments local (forest rows.entry) }
 {
-    segments(rows, from, to) == 2
-        && !begins_with(rows, local, from, to)
-        && no_ref(rows, local, from, to)
-}
-
-// stmt_no_ref, of the first of the rows from `from` up to `to`: a null statement, an assignment or a system task by all that
-// it holds, a task. No other form is vetted.
-pub fn stmt_no_ref(rows: &[u32], local: usize, from: usize, to: usize) -> bool
-    requires { Nested rows.now from to }
-    ensures { result ≡ stmt_no_ref local (tree rows.now from to) }
-{
-    if to <= from {
+    if segments(rows) != 2 {
         return false;
     }
-    let end = table::row_end(rows, from, to);
-    match kinds::stmt_class(table::kind_at(rows, from)) {
+    !begins_with(rows, local) && no_ref(rows, local)
+}
+
+// stmt_no_ref, of the first of these rows: a null statement, an assignment or a system task by all that it holds, a task. No other form
+// is vetted.
+pub fn stmt_no_ref(rows: Siblings, local: usize) -> bool
+    ensures { result ≡ stmt_no_ref local (forest rows.entry) }
+{
+    let Some(row) = rows.first() else {
+        return false;
+    };
+    match kinds::stmt_class(row.kind()) {
         StmtClass::Null => true,
         StmtClass::Blocking | StmtClass::Nonblocking | StmtClass::Systask => no_ref(
-            rows,
+            row.children(),
             local,
-            from + 1,
-            end,
         ),
-        StmtClass::Task => task_no_ref(rows, local, from + 1, end),
+        StmtClass::Task => task_no_ref(row.children(), local),
         _ => false,
     }
 }

@@ -3,3 +3,4 @@ pub mod Tree
 pub mod Fold
 pub mod Same
 pub mod Loops
+pub mod Parts

@@ -3,9 +3,9 @@
 // table whose ends nest.
 #![tactic(auto)]
 
-ghost use Rattle.std.specs.Prelude.{◌≡◌, ◌+◌, ◌*◌, ◌<◌, length, ltb, is_some, IfSome};
+ghost use Rattle.std.specs.Prelude.{◌≡◌, ◌+◌, ◌*◌, ◌≤◌, ◌<◌, length, leb, IfSome, IfNone};
 ghost use Rattle.table.specs.Rows.{kind_at, side_at, lo_at, hi_at, end_at, Nested};
-ghost use Rattle.table.specs.Steps.{RowEnd, NextRow, RowAlone, next_of};
+ghost use Rattle.table.specs.Steps.{RowEnd, NextRow, RowAlone};
 
 // A number of the table as an index.
 pub fn wide(x: u32) -> usize
@@ -84,24 +84,43 @@ pub struct Node<'a> {
 }
 
 impl<'a> Siblings<'a> {
+    ghost use Rattle.table.specs.Siblings.{First, Rest, Head};
+
+    pub fn is_empty(self) -> bool
+        ensures { result ≡ leb self.entry.to self.entry.from }
+    {
+        self.to <= self.from
+    }
+
     // The first of them, if there is one.
     pub fn first(self) -> Option<Node<'a>>
-        ensures some { is_some result ≡ ltb self.entry.from self.entry.to }
-        ensures is { IfSome result (λ row. (row.table.now ≡ self.entry.table.now) × ((row.at ≡ self.entry.from) × (row.end ≡ end_at self.entry.table.now self.entry.from))) }
+        ensures some { IfSome result (λ row. First self.entry row) }
+        ensures none { IfNone result (self.entry.to ≤ self.entry.from) }
     {
-        if self.from < self.to {
-            return Some(Node {
-                table: self.table,
-                at: self.from,
-                end: row_end(self.table, self.from, self.to),
-            });
+        if self.is_empty() {
+            return None;
         }
-        None
+        Some(Node {
+            table: self.table,
+            at: self.from,
+            end: row_end(self.table, self.from, self.to),
+        })
+    }
+
+    // The first of them alone, or none.
+    pub fn head(self) -> Siblings<'a>
+        ensures { Head self.entry result }
+    {
+        Siblings {
+            table: self.table,
+            from: self.from,
+            to: next_at(self.table, self.from, self.to),
+        }
     }
 
     // Those after the first.
     pub fn rest(self) -> Siblings<'a>
-        ensures { (result.table.now ≡ self.entry.table.now) × ((result.from ≡ next_of self.entry.table.now self.entry.from self.entry.to) × (result.to ≡ self.entry.to)) }
+        ensures { Rest self.entry result }
     {
         Siblings {
             table: self.table,
@@ -112,6 +131,8 @@ impl<'a> Siblings<'a> {
 }
 
 impl<'a> Node<'a> {
+    ghost use Rattle.table.specs.Siblings.{Children, Alone};
+
     pub fn kind(self) -> usize
         ensures { result ≡ kind_at self.entry.table.now self.entry.at }
     {
@@ -124,13 +145,36 @@ impl<'a> Node<'a> {
         side_at(self.table, self.at)
     }
 
+    pub fn lo(self) -> u32
+        ensures { result ≡ lo_at self.entry.table.now self.entry.at }
+    {
+        lo_at(self.table, self.at)
+    }
+
+    pub fn hi(self) -> u32
+        ensures { result ≡ hi_at self.entry.table.now self.entry.at }
+    {
+        hi_at(self.table, self.at)
+    }
+
     // What it holds.
     pub fn children(self) -> Siblings<'a>
-        ensures { (result.table.now ≡ self.entry.table.now) × ((result.from ≡ self.entry.at + 1) × (result.to ≡ self.entry.end)) }
+        ensures { Children self.entry result }
     {
         Siblings {
             table: self.table,
             from: self.at + 1,
+            to: self.end,
+        }
+    }
+
+    // It, as siblings of which there is one.
+    pub fn alone(self) -> Siblings<'a>
+        ensures { Alone self.entry result }
+    {
+        Siblings {
+            table: self.table,
+            from: self.at,
             to: self.end,
         }
     }

@@ -2,5 +2,5 @@
 use Rattle.reads.specs.Steps.{AfterQuiet}
 use Rattle.reads.proofs.after_quiet.Given as goal
 
-abbrev pub invariant-loop-next : goal.invariant-loop-next
-invariant-loop-next l = AfterQuiet l.local l.rows l.i l.to l.next
+abbrev pub invariant-loop-from : goal.invariant-loop-from
+invariant-loop-from l = AfterQuiet l.local l.rows.table.now l.rows.from l.rows.to l.from

@@ -1,0 +1,42 @@
+-- The laws of a table's parts: what a part spells, from how it stands to another.
+use mathlib.Core.Path.{◌≡◌, refl, sym, ◌∙◌}
+use Prim.Native.Nat.{◌+◌, ◌≤◌, ◌<◌}
+use Rattle.table.specs.declared.Siblings.{Siblings}
+use Rattle.table.specs.declared.Node.{Node}
+use Rattle.table.specs.Rows.{kind_at, side_at, lo_at, hi_at, end_at, nil, node, tree, Nested, rest}
+use Rattle.table.specs.Steps.{next_of}
+use Rattle.table.specs.Siblings.{forest, First, Children, Rest}
+use native.Mathlib.Omega.{arith}
+use mathlib.Core.Bool.{Bool, true, false, not}
+use lib.Dec.{leb}
+use borrow.Author.Tests.{lt-ltb, leb-true, leb-false, not-true, not-false}
+use Rattle.table.proofs.Ranges.{ends_after}
+use Rattle.table.proofs.Tree.{tree_none, tree_some, tree_next}
+
+-- no rows
+pub forest_none : (rows : Siblings) → rows.to ≤ rows.from → forest rows ≡ nil
+forest_none rows h = tree_none rows.table.now rows.from rows.to h
+
+-- a first row, what it holds, and those after it
+pub forest_some : {rows : Siblings} {row : Node} {below : Siblings}
+    → First rows row
+    → Children row below
+    → forest rows
+    ≡ node (kind_at row.table.now row.at) (side_at row.table.now row.at) (lo_at row.table.now row.at) (hi_at row.table.now row.at) (forest below) (tree row.table.now row.end rows.to)
+forest_some {rows} {row} {below} f b = rw (b.same, b.starts, b.ends, f.same, f.starts, f.ends) (tree_some rows.nested f.some)
+
+-- those after the first
+pub forest_rest : {rows after : Siblings} → Rest rows after → forest after ≡ rest (forest rows)
+forest_rest {rows} {after} r = rw (r.same, r.ends) (tree_next after.from rows.nested r.starts)
+
+-- they begin further on
+pub rest_after : {rows after : Siblings} → rows.from < rows.to → Rest rows after → rows.from < after.from
+rest_after {rows} {after} h r = let e : after.from ≡ end_at rows.table.now rows.from = r.starts ∙ rw (lt-ltb rows.from rows.to h) in omega (arith, ends_after rows.nested h)
+
+-- what a loop that asks whether any are left knows
+module _ (rows : Siblings) (b : Bool) (e : b ≡ leb rows.to rows.from) where
+  pub some_left : not b ≡ true → rows.from < rows.to
+  some_left n = leb-false rows.to rows.from (sym e ∙ not-true b n)
+
+  pub none_left : not b ≡ false → rows.to ≤ rows.from
+  none_left n = leb-true rows.to rows.from (sym e ∙ not-false b n)
