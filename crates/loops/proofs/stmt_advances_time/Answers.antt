@@ -1,21 +1,13 @@
-use Rattle.std.proofs.Common.{refl, rules}
-use Rattle.loops.proofs.Answers.{time_told, scan_answers, scan_misses, from_row}
+use Rattle.std.proofs.Common.{refl, rules, tests}
+use Rattle.std.proofs.lemmas.Iterator.{YieldsList-from_range}
+use Rattle.std.proofs.lemmas.Iterator.Search.{any_from_yields_List}
+use Rattle.table.specs.Rows.{kind_at, side_at}
+use Rattle.loops.specs.Time.{lets_time_pass}
+use Rattle.loops.proofs.Answers.{time_any, time_told}
 use Rattle.loops.proofs.stmt_advances_time.Goals as goal
 
-pub loop-i-init : goal.loop-i-init
-loop-i-init c = refl
-
-pub loop-i-preserved : goal.loop-i-preserved
-loop-i-preserved c = search (scan_misses, from_row, rules)
-
-pub returns-then-lets_time_pass-clause-value : goal.returns-then-lets_time_pass-clause-value
-returns-then-lets_time_pass-clause-value c = search (scan_answers, from_row, rules)
-
-pub returns-then-lets_time_pass-clause-arms : goal.returns-then-lets_time_pass-clause-arms
-returns-then-lets_time_pass-clause-arms c = (time_told c.args.rows.nested (search (scan_answers, from_row, rules))).1
-
-pub returns-clause-value : goal.returns-clause-value
-returns-clause-value c = search (scan_answers, rules)
-
-pub returns-clause-arms : goal.returns-clause-arms
-returns-clause-arms c = (time_told c.args.rows.nested (search (scan_answers, rules))).1
+pub returns : goal.returns
+returns c =
+    let rows = c.args.rows.table.now in
+    let e = time_any c.args.rows.nested (any_from_yields_List (λ i. lets_time_pass (kind_at rows i) (side_at rows i)) _ _ _ c.any.ensures.ran (YieldsList-from_range c.args.rows.from c.args.rows.to _ refl refl) (λ x b q k. search (rules, tests))) in
+    record { value = e; arms = time_told c.args.rows.nested e }

@@ -1,21 +1,15 @@
-use Rattle.std.proofs.Common.{refl, rules}
-use Rattle.loops.proofs.Answers.{escape_told, scan_answers, scan_misses, from_row}
+use Rattle.std.proofs.Common.{refl, rules, tests}
+use Rattle.std.proofs.lemmas.Iterator.{YieldsList-from_range}
+use Rattle.std.proofs.lemmas.Iterator.Search.{all_from_yields_List}
+use Rattle.table.specs.Rows.{kind_at}
+use Rattle.kinds.specs.Named.{stmt_class}
+use Rattle.loops.specs.Escape.{transfers}
+use Rattle.std.specs.Prelude.{not}
+use Rattle.loops.proofs.Answers.{escape_all, escape_told}
 use Rattle.loops.proofs.stmt_cannot_escape.Goals as goal
 
-pub loop-i-init : goal.loop-i-init
-loop-i-init c = refl
-
-pub loop-i-preserved : goal.loop-i-preserved
-loop-i-preserved c = search (scan_misses, from_row, rules)
-
-pub returns-then-transfers_control-clause-value : goal.returns-then-transfers_control-clause-value
-returns-then-transfers_control-clause-value c = search (scan_answers, from_row, rules)
-
-pub returns-then-transfers_control-clause-arms : goal.returns-then-transfers_control-clause-arms
-returns-then-transfers_control-clause-arms c = (escape_told c.args.rows.nested (search (scan_answers, from_row, rules))).1
-
-pub returns-clause-value : goal.returns-clause-value
-returns-clause-value c = search (scan_answers, rules)
-
-pub returns-clause-arms : goal.returns-clause-arms
-returns-clause-arms c = (escape_told c.args.rows.nested (search (scan_answers, rules))).1
+pub returns : goal.returns
+returns c =
+    let rows = c.args.rows.table.now in
+    let e = escape_all c.args.rows.nested (all_from_yields_List (λ i. not (transfers (stmt_class (kind_at rows i)))) _ _ _ c.all.ensures.ran (YieldsList-from_range c.args.rows.from c.args.rows.to _ refl refl) (λ x b q k. search (rules, tests))) in
+    record { value = e; arms = escape_told c.args.rows.nested e }
