@@ -5,6 +5,8 @@ use lib.Dec.{eqb}
 use mathlib.Core.Path.{◌≡◌, refl, sym, ap, subst, ◌∙◌}
 use mathlib.Core.Bool.{Bool, true, false, cond, ◌||◌, not}
 use mathlib.Core.List.{List, ◌∷◌}
+use Rattle.table.specs.declared.Siblings.{Siblings}
+use Rattle.table.specs.Siblings.{forest}
 use Rattle.table.specs.Rows.{Forest, nil, node, tree}
 use Rattle.table.specs.Fold.{fold, nth, Pairwise, no_pair, pair}
 use Rattle.table.proofs.Fold.{related_at}
@@ -388,5 +390,5 @@ module _ (x : ℕ) (f : Forest) where
       record { effect = d; writing = ap guarded e ∙ sym (effect_first x f); law = λ sem q. subst (λ d. EffectLaw d (nth no_evaluation 0 (evaluations sem x f))) (ap (λ o. o.effect) (facts_effects x f 0) ∙ d) (first_law sem q).effect }
 
 -- no row
-pub none_told : (x : ℕ) (rows : List ℕ) (from to : ℕ) → to ≤ from → DaTold x (tree rows from to) no_row_effect
-none_told x rows from to h = da_told x (tree rows from to) no_row_effect (unguarded_none x rows from to h)
+pub none_told : (x : ℕ) (rows : Siblings) → rows.to ≤ rows.from → DaTold x (forest rows) no_row_effect
+none_told x rows h = da_told x (forest rows) no_row_effect (unguarded_none x rows h)

@@ -8,10 +8,12 @@ use native.Mathlib.Omega.{arith}
 use lib.Dec.{ltb, leb, eqb}
 use borrow.Author.Tests.{ltb-true, ltb-false, leb-true, ne_eqb}
 use Rattle.table.specs.Rows.{kind_at, side_at, end_at, tree, Nested}
-use Rattle.table.specs.Steps.{NextRow}
+use Rattle.table.specs.declared.Siblings.{Siblings}
+use Rattle.table.specs.Siblings.{forest, Head}
 use Rattle.table.proofs.Ranges.{ends_after, ends_within, others, alone, children}
 use Rattle.table.proofs.Tree.{tree_alone}
-use Rattle.table.proofs.Fold.{fold_none, fold_some, fold_first}
+use Rattle.table.proofs.Fold.{fold_none, fold_some}
+use Rattle.table.proofs.Parts.{fold_head}
 use Rattle.kinds.specs.declared.ExprClass.{ExprClass}
 use Rattle.kinds.specs.declared.ExprClass.TheVariants.{Ident, Call, Lident, Opaque, Event, Unary, Binary, Ternary, Paren, Other}
 use Rattle.kinds.specs.Named.{expr_class}
@@ -78,13 +80,13 @@ pub quiet_effects : (x : ℕ) {rows : List ℕ} {from to : ℕ} → Nested rows 
 quiet_effects x {from = from} {to = to} g q = quiet_by (to - from) x (omega arith) g q
 
 -- all_quiet
-module _ (x : ℕ) (rows : List ℕ) (from to end next : ℕ) (g : Nested rows from to) (u : NextRow rows from to end) (w : AfterQuiet x rows from end next) (e : leb end next ≡ true) where
-  pub quiet_first : expr_effect_of x (tree rows from to) 0 ≡ no_effect
+module _ (x : ℕ) (rows head left : Siblings) (b : Bool) (u : Head rows head) (w : AfterQuiet x head.table.now head.from head.to left.from) (n : (left.table.now ≡ head.table.now) × (left.to ≡ head.to)) (p : b ≡ leb left.to left.from) (e : b ≡ true) where
+  pub quiet_first : expr_effect_of x (forest rows) 0 ≡ no_effect
   quiet_first =
-      sym (fold_first (expr_effect_at x) no_effect g u.is)
-      ∙ quiet_effects x u.alone (λ j p l. w.quiet j p (omega (arith, leb-true end next e))) 0
+      sym (fold_head (expr_effect_at x) no_effect u)
+      ∙ quiet_effects x head.nested (λ j q l. w.quiet j q (omega (arith, n.1, leb-true left.to left.from (sym p ∙ e)))) 0
 
-  pub quiet_told : EffectTold x (tree rows from to) no_effect
-  quiet_told = effect_told x (tree rows from to) no_effect (sym quiet_first)
+  pub quiet_told : EffectTold x (forest rows) no_effect
+  quiet_told = effect_told x (forest rows) no_effect (sym quiet_first)
 
 pub ruleset quiet_answers = (quiet_first, quiet_told)
