@@ -30,11 +30,10 @@ use Rattle.sheet_record.specs.Records.{mark_at, marks_of}
 use Rattle.da.specs.declared.DaOut.{DaOut}
 use Rattle.da.specs.declared.DaOut.TheVariants.{Falls, Jumps}
 use Rattle.da.specs.declared.DaGiveUp.{DaGiveUp}
-use Rattle.da.specs.declared.DaResult.{DaResult}
-use Rattle.da.specs.declared.DaResult.TheVariants.{Ok, Err}
+use Rattle.std.specs.Prelude.{Ok, Err}
 use Rattle.da.specs.declared.CallEffect.{CallEffect}
 use Rattle.da.specs.declared.CallEffect.TheVariants.{Unknown}
-use Rattle.da.specs.Outcome.{State, is_written}
+use Rattle.da.specs.Outcome.{DaResult, State, is_written}
 use Rattle.da.specs.Walk.{DaCtx, unless_read, call_effect, task, held_facts, walk_of}
 use Rattle.da_rows.specs.declared.Context.{Context}
 use Rattle.da_leaf.specs.declared.Construct.{Construct}

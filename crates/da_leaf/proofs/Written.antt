@@ -16,11 +16,10 @@ use Rattle.kinds.specs.contracts.StmtClass.{the_type}
 use Rattle.kinds.proofs.Classes.{last_arm}
 use Rattle.expr_effect.specs.Law.{ExprFacts, no_facts}
 use Rattle.da.specs.declared.DaOut.TheVariants.{Falls}
-use Rattle.da.specs.declared.DaResult.{DaResult}
-use Rattle.da.specs.declared.DaResult.TheVariants.{Ok}
+use Rattle.std.specs.Prelude.{Ok}
 use Rattle.da.specs.declared.CallEffect.{CallEffect}
 use Rattle.da.specs.declared.CallEffect.TheVariants.{Inert, Writes, Reads, Unknown}
-use Rattle.da.specs.Outcome.{written}
+use Rattle.da.specs.Outcome.{DaResult, written}
 use Rattle.da.specs.Walk.{unless_one_read, call_effect, task}
 use Rattle.da_rows.specs.declared.Context.{Context}
 use Rattle.da_leaf.specs.declared.Construct.{Construct}

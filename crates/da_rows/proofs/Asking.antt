@@ -24,9 +24,8 @@ use Rattle.expr_effect.proofs.Facts.{fact_none, fact_lo, fact_hi}
 use Rattle.da.specs.declared.DaOut.{DaOut}
 use Rattle.da.specs.declared.DaOut.TheVariants.{Falls}
 use Rattle.da.specs.declared.DaGiveUp.{DaGiveUp}
-use Rattle.da.specs.declared.DaResult.{DaResult}
-use Rattle.da.specs.declared.DaResult.TheVariants.{Ok, Err}
-use Rattle.da.specs.Outcome.{State, is_written, gains, ◌▷◌}
+use Rattle.std.specs.Prelude.{Ok, Err}
+use Rattle.da.specs.Outcome.{DaResult, State, is_written, gains, ◌▷◌}
 use Rattle.da.specs.Walk.{expr_reads, expr_out_writes, unless_read, unless_one_read, held_facts_at}
 use Rattle.da_rows.specs.declared.States.{States}
 use Rattle.da_rows.specs.declared.Evaluated.{Evaluated}

@@ -23,9 +23,8 @@ use Rattle.loops.specs.Escape.{cannot_escapes, cannot_escape}
 use Rattle.loops.proofs.Alone.{escape_alone}
 use Rattle.da.specs.declared.DaOut.{DaOut}
 use Rattle.da.specs.declared.DaOut.TheVariants.{Falls}
-use Rattle.da.specs.declared.DaResult.{DaResult}
-use Rattle.da.specs.declared.DaResult.TheVariants.{Ok}
-use Rattle.da.specs.Outcome.{State}
+use Rattle.std.specs.Prelude.{Ok}
+use Rattle.da.specs.Outcome.{DaResult, State}
 use Rattle.da.specs.Walk.{DaCtx, Walk, StmtRow, no_walk, unless_one_read, falls_written, walk_of, walk_at, walks}
 use Rattle.da_rows.specs.declared.Part.{Part}
 use Rattle.da_rows.specs.declared.Part.TheVariants.{Statement}

@@ -1,6 +1,6 @@
 -- How the code goes through the walk of da's Walk over rows of two lent tables: what it sees of them, what evaluating an expression comes
 -- to, what a row is to the statement that holds it, and what the arms of a case and the body of a loop come to. Definitions only.
-use Rattle.std.specs.Prelude.{Bool, true, false, cond, ◌&&◌, not, List, [], ℕ, ◌+◌, eqb, ltb}
+use Rattle.std.specs.Prelude.{Bool, true, false, cond, ◌&&◌, not, List, [], ℕ, ◌+◌, eqb, ltb, Err}
 use Rattle.table.specs.Rows.{kind_at, side_at, lo_at, hi_at, end_at, tree}
 use Rattle.table.specs.Fold.{nth, tail}
 use Rattle.kinds.specs.declared.StmtClass.{StmtClass}
@@ -11,9 +11,7 @@ use Rattle.expr_effect.specs.Law.{ExprFacts, expr_facts, no_facts}
 use Rattle.loops.specs.Escape.{cannot_escapes}
 use Rattle.da.specs.Walk.{DaCtx, StmtRow, held_facts, stmt_row, expr_reads, expr_out_writes, gains_when, falls_written}
 use Rattle.da.specs.declared.DaGiveUp.{DaGiveUp}
-use Rattle.da.specs.declared.DaResult.{DaResult}
-use Rattle.da.specs.declared.DaResult.TheVariants.{Err}
-use Rattle.da.specs.Outcome.{State, is_written, gains}
+use Rattle.da.specs.Outcome.{DaResult, State, is_written, gains}
 use Rattle.da.specs.declared.DaOut.{DaOut}
 use Rattle.da.specs.declared.DaOut.TheVariants.{Falls}
 use Rattle.da_rows.specs.declared.Context.{Context}

@@ -12,9 +12,8 @@ use Rattle.table.proofs.Tree.{tree_some, tree_alone}
 use Rattle.reads.specs.Mentions.{some}
 use Rattle.loops.specs.Time.{advances_at, advances, advances_time}
 use Rattle.da.specs.declared.DaGiveUp.{DaGiveUp}
-use Rattle.da.specs.declared.DaResult.{DaResult}
-use Rattle.da.specs.declared.DaResult.TheVariants.{Err}
-use Rattle.da.specs.Outcome.{State}
+use Rattle.std.specs.Prelude.{Err}
+use Rattle.da.specs.Outcome.{DaResult, State}
 use Rattle.da.specs.Walk.{da_ctx, da_stmt}
 use Rattle.da.proofs.Timing.{asked_once}
 use Rattle.soundness.specs.Demand3.{WalkMeans}

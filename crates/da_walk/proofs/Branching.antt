@@ -16,9 +16,8 @@ use Rattle.expr_effect.specs.Law.{ExprFacts}
 use Rattle.da.specs.declared.DaOut.{DaOut}
 use Rattle.da.specs.declared.DaOut.TheVariants.{Falls, Jumps}
 use Rattle.da.specs.declared.DaGiveUp.{DaGiveUp}
-use Rattle.da.specs.declared.DaResult.{DaResult}
-use Rattle.da.specs.declared.DaResult.TheVariants.{Ok, Err}
-use Rattle.da.specs.Outcome.{State, is_written, merge, ◌▷◌, go_on}
+use Rattle.std.specs.Prelude.{Ok, Err}
+use Rattle.da.specs.Outcome.{DaResult, State, is_written, merge, ◌▷◌, go_on}
 use Rattle.da.specs.Walk.{DaCtx, Walk, no_walk, unless_one_read, if_else, block, arms, case_of, walk_at, da_stmt}
 use Rattle.da_rows.specs.declared.States.{States}
 use Rattle.da_rows.specs.declared.Evaluated.{Evaluated}

@@ -14,9 +14,8 @@ use Rattle.kinds.specs.Named.{stmt_class}
 use Rattle.kinds.proofs.Below.{both_true, true_not_false}
 use Rattle.reads.specs.NoRef.{vetting, vetted, stmt_no_ref}
 use Rattle.da.specs.declared.DaOut.TheVariants.{Falls}
-use Rattle.da.specs.declared.DaResult.{DaResult}
-use Rattle.da.specs.declared.DaResult.TheVariants.{Ok}
-use Rattle.da.specs.Outcome.{State, is_written, give_up, ◌▷◌}
+use Rattle.std.specs.Prelude.{Ok}
+use Rattle.da.specs.Outcome.{DaResult, State, is_written, give_up, ◌▷◌}
 use Rattle.da.specs.Walk.{DaCtx, Walk, no_walk, held_facts, walk_of, walk_at, da_stmt}
 use Rattle.da_rows.specs.declared.Context.{Context}
 use Rattle.da_rows.specs.Steps.{untimed, stmt_at, facts_in, fact_in, held_in}

@@ -14,9 +14,8 @@ use Rattle.loops.specs.Escape.{cannot_escape_at, cannot_escapes}
 use Rattle.da.specs.declared.DaOut.{DaOut}
 use Rattle.da.specs.declared.DaOut.TheVariants.{Falls}
 use Rattle.da.specs.declared.DaGiveUp.{DaGiveUp}
-use Rattle.da.specs.declared.DaResult.{DaResult}
-use Rattle.da.specs.declared.DaResult.TheVariants.{Ok, Err}
-use Rattle.da.specs.Outcome.{State, gains, state, ◌▷◌}
+use Rattle.std.specs.Prelude.{Ok, Err}
+use Rattle.da.specs.Outcome.{DaResult, State, gains, state, ◌▷◌}
 use Rattle.da.specs.Walk.{DaCtx, Walk, StmtRow, no_walk, rounds, while_true, repeated, walk_at, da_stmt}
 use Rattle.da_rows.specs.declared.States.{States}
 use Rattle.da_rows.specs.declared.Evaluated.{Evaluated}

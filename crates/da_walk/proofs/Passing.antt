@@ -13,7 +13,7 @@ use Rattle.kinds.specs.declared.StmtClass.{StmtClass}
 use Rattle.kinds.specs.Named.{stmt_class}
 use Rattle.kinds.proofs.Below.{true_not_false}
 use Rattle.da.specs.declared.DaOut.TheVariants.{Falls}
-use Rattle.da.specs.declared.DaResult.TheVariants.{Ok}
+use Rattle.std.specs.Prelude.{Ok}
 use Rattle.da.specs.Outcome.{State, written}
 use Rattle.da.specs.Walk.{Walk, no_walk, walk_at, da_stmt}
 use Rattle.da_rows.specs.declared.Context.{Context}

@@ -2,7 +2,7 @@
 use Prim.Native.Nat.{◌-◌}
 use Rattle.table.proofs.Loops.{Goes}
 use Rattle.da.specs.declared.DaOut.TheVariants.{Falls}
-use Rattle.da.specs.declared.DaResult.TheVariants.{Ok}
+use Rattle.std.specs.Prelude.{Ok}
 use Rattle.da.specs.Walk.{unless_one_read}
 use Rattle.da_rows.specs.Steps.{facts_in}
 use Rattle.da_rows.proofs.Asking.{unread}
