@@ -248,13 +248,6 @@ pub fn case_out(has_default: bool, after: bool, all: DaOut) -> DaOut
     DaOut::Falls(after)
 }
 
-// What held before holds still, and so does what a test adds: a write, or that a case has a default.
-pub fn gains(wrote: bool, assigned: bool) -> bool
-    ensures { result ≡ assigned || wrote }
-{
-    assigned || wrote
-}
-
 fn falls_written(out: DaOut) -> bool
     ensures { result ≡ falls_written out }
 {
