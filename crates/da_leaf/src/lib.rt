@@ -75,7 +75,7 @@ fn da_target(
         return Ok(DaOut::Falls(true)); // whatever it was before
     }
     let end = table::next_at(rows, from, to);
-    let clear = reads::lvalue_no_ref(rows, local, from, end);
+    let clear = reads::no_ref(rows, local, from, end);
     only_written(rows, i, 4, gained(!clear, after, assigned))
 }
 

@@ -165,7 +165,7 @@ pub fn refers_unwritten(rows: &[u32], local: usize, from: usize, to: usize, assi
     requires { Nested rows.now from to }
     ensures { result ≡ not assigned && refers_in Skipped local (tree rows.now from to) }
 {
-    !assigned && !reads::expr_no_ref(rows, local, from, to)
+    !assigned && !reads::no_ref(rows, local, from, to)
 }
 
 // What a row is to the statement that holds it.
