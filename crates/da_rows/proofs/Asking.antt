@@ -7,11 +7,12 @@ use Prim.Native.Nat.{ℕ, ◌+◌, ◌≤◌, ◌<◌}
 use native.Mathlib.Omega.{arith}
 use lib.Dec.{ltb}
 use borrow.Author.Rules.{rules}
-use borrow.Author.Tests.{ltb-true, ltb-false}
-use Rattle.table.specs.Rows.{end_at, tree, Nested}
-use Rattle.table.specs.Steps.{RowEnd, NextRow}
+use borrow.Author.Tests.{ltb-true, ltb-false, lt-ltb, le-ltb}
+use Rattle.table.specs.declared.Siblings.{Siblings}
+use Rattle.table.specs.declared.Node.{Node}
+use Rattle.table.specs.Rows.{lo_at, hi_at, end_at, tree, Nested}
+use Rattle.table.specs.Siblings.{First, Children, Rest}
 use Rattle.table.proofs.Fold.{fold_none, fold_some, fold_step}
-use Rattle.table.proofs.Loops.{Goes, goes_start, goes_on, loops}
 use Rattle.effect_rules.specs.declared.ExprDa.{ExprDa}
 use Rattle.effect_rules.specs.declared.ExprDa.TheVariants.{Clean, Writes, Reads}
 use Rattle.effect_rules.specs.declared.ExprEffect.{ExprEffect}
@@ -25,13 +26,21 @@ use Rattle.std.specs.Prelude.{Result, Ok, Err}
 use Rattle.da.specs.Outcome.{DaResult, State, is_written, gains, ◌▷◌}
 use Rattle.da.specs.Walk.{expr_reads, expr_out_writes, unless_read, unless_one_read, held_facts_at}
 use Rattle.da_rows.specs.declared.States.{States}
-use Rattle.da_rows.specs.Steps.{first_lo, first_hi, facts_in, fact_in, held_in, always, states_after, evaluation, onward}
+use Rattle.da_rows.specs.Steps.{first_lo, first_hi, facts_in, fact_in, facts_of, fact_of, held_of, read_in, always, states_after, evaluation, onward}
 
 -- the span of the facts of the first row
 module _ (x : ℕ) {rows : List ℕ} {from to : ℕ} (g : Nested rows from to) where
   fact_span : (b : Bool) → ltb from to ≡ b → ((fact_in x rows from to).lo ≡ first_lo rows from to) × ((fact_in x rows from to).hi ≡ first_hi rows from to)
   fact_span true q = let h : from < to = ltb-true from to q in (fact_lo x g h ∙ rw q, fact_hi x g h ∙ rw q)
   fact_span false q = let h : to ≤ from = ltb-false from to q in (rw (fact_none x rows from to h, q), rw (fact_none x rows from to h, q))
+
+-- read_at
+module _ (rows : Siblings) where
+  pub read_some : (row : Node) (stop : DaGiveUp) → First rows row → stop ≡ record { reason = 2; lo = lo_at row.table.now row.at; hi = hi_at row.table.now row.at } → stop ≡ read_in rows
+  read_some row stop f e = e ∙ rw (f.same, f.starts, lt-ltb rows.from rows.to f.some)
+
+  pub read_none : rows.to ≤ rows.from → record { reason = 2; lo = 0; hi = 0 } ≡ read_in rows
+  read_none h = rw (le-ltb rows.from rows.to h)
 
 -- evaluate: where all is written nothing is asked, where every row is quiet there is no effect, and else the effect decides
 pub evaluate_written : (e : ExprFacts) (a : State) (states : States) → a ≡ true → states ≡ always true → Ok states ≡ evaluation e a
@@ -130,51 +139,45 @@ unless_one_then (e ∷ es) a next = unless_then e a (unless_one_read es a next) 
     go (Err stop) = refl
 
 -- unless_one_read: a loop over the siblings
-pub ones_start : (x : ℕ) (rows : List ℕ) (from to : ℕ) (a : State)
-    → Nested rows from to
-    → Goes rows from to from (unless_one_read (facts_in x rows from to) a (Ok (Falls a))) (unless_one_read (facts_in x rows from to) a (Ok (Falls a)))
-ones_start x rows from to a g = goes_start _ g
+module _ (x : ℕ) (rows left : Siblings) (a : State) (w : unless_one_read (facts_of x rows) a (Ok (Falls a)) ≡ unless_one_read (facts_of x left) a (Ok (Falls a))) where
+  pub ones_done : left.to ≤ left.from → Ok (Falls a) ≡ unless_one_read (facts_of x rows) a (Ok (Falls a))
+  ones_done h = sym (w ∙ rw (fold_none (facts_at x) left.table.now left.from left.to h))
 
-module _ (x : ℕ) (rows : List ℕ) (from to i : ℕ) (a : State) (w : Goes rows from to i (unless_one_read (facts_in x rows from to) a (Ok (Falls a))) (unless_one_read (facts_in x rows i to) a (Ok (Falls a)))) where
-  pub ones_done : to ≤ i → Ok (Falls a) ≡ unless_one_read (facts_in x rows from to) a (Ok (Falls a))
-  ones_done h = sym (w.same ∙ rw (fold_none (facts_at x) rows i to h))
-
-  module _ (r : DaResult) (h : i < to) (e : r ≡ unless_read (fact_in x rows i to) a (Ok (Falls a))) where
-    ones_step : (n : ℕ) → n ≡ end_at rows i → unless_one_read (facts_in x rows i to) a (Ok (Falls a)) ≡ r ▷ λ out. unless_one_read (facts_in x rows n to) a (Ok (Falls a))
+  module _ (r : DaResult) (h : left.from < left.to) (e : r ≡ unless_read (fact_of x left) a (Ok (Falls a))) where
+    ones_step : (n : ℕ) → n ≡ end_at left.table.now left.from → unless_one_read (facts_of x left) a (Ok (Falls a)) ≡ r ▷ λ out. unless_one_read (facts_in x left.table.now n left.to) a (Ok (Falls a))
     ones_step n p =
-        ap (λ fs. unless_one_read fs a (Ok (Falls a))) (fold_step (facts_at x) no_facts w.nested h p)
-        ∙ unless_then (fact_in x rows i to) a (unless_one_read (facts_in x rows n to) a (Ok (Falls a)))
+        ap (λ fs. unless_one_read fs a (Ok (Falls a))) (fold_step (facts_at x) no_facts left.nested h p)
+        ∙ unless_then (fact_of x left) a (unless_one_read (facts_in x left.table.now n left.to) a (Ok (Falls a)))
         ∙ rw (← e)
 
-    pub ones_stop : (stop : DaGiveUp) → r ≡ Err stop → Err stop ≡ unless_one_read (facts_in x rows from to) a (Ok (Falls a))
-    ones_stop stop o = sym (w.same ∙ ones_step (end_at rows i) refl ∙ rw o)
+    pub ones_stop : (stop : DaGiveUp) → r ≡ Err stop → Err stop ≡ unless_one_read (facts_of x rows) a (Ok (Falls a))
+    ones_stop stop o = sym (w ∙ ones_step (end_at left.table.now left.from) refl ∙ rw o)
 
-    pub ones_on : (out : DaOut) (n : ℕ) → r ≡ Ok out → RowEnd rows i to n → Goes rows from to n (unless_one_read (facts_in x rows from to) a (Ok (Falls a))) (unless_one_read (facts_in x rows n to) a (Ok (Falls a)))
-    ones_on out n o t = goes_on w t (ones_step n t.is ∙ rw o)
+    pub ones_on : (out : DaOut) (next : Siblings) → r ≡ Ok out → Rest left next → unless_one_read (facts_of x rows) a (Ok (Falls a)) ≡ unless_one_read (facts_of x next) a (Ok (Falls a))
+    ones_on out next o t = w ∙ ones_step next.from (t.starts ∙ rw (lt-ltb left.from left.to h)) ∙ rw (o, t.same, t.ends)
 
 -- unless_held_read: what the first row holds
-module _ (x : ℕ) (rows : List ℕ) (from to : ℕ) (a : State) where
-  pub held_none : to ≤ from → Ok (Falls a) ≡ unless_one_read (held_in x rows from to) a (Ok (Falls a))
-  held_none h = rw (fold_none (held_facts_at x) rows from to h)
+module _ (x : ℕ) (rows : Siblings) (a : State) where
+  pub held_none : rows.to ≤ rows.from → Ok (Falls a) ≡ unless_one_read (held_of x rows) a (Ok (Falls a))
+  held_none h = rw (fold_none (held_facts_at x) rows.table.now rows.from rows.to h)
 
-  pub held_some : (r : DaResult) (n : ℕ)
-      → Nested rows from to
-      → from < to
-      → RowEnd rows from to n
-      → r ≡ unless_one_read (facts_in x rows (from + 1) n) a (Ok (Falls a))
-      → r ≡ unless_one_read (held_in x rows from to) a (Ok (Falls a))
+  pub held_some : (r : DaResult) (row : Node) (below : Siblings)
+      → First rows row
+      → Children row below
+      → r ≡ unless_one_read (facts_of x below) a (Ok (Falls a))
+      → r ≡ unless_one_read (held_of x rows) a (Ok (Falls a))
   unfolding held_facts_at
-  held_some r n g h t e = e ∙ rw (fold_some (held_facts_at x) g h, t.is)
+  held_some r row below f b e = e ∙ rw (b.same, b.starts, b.ends, f.same, f.starts, f.ends, fold_some (held_facts_at x) rows.nested f.some)
 
   -- a row that holds nothing
-  pub held_bare : (n : ℕ) → Nested rows from to → NextRow rows from to n → n ≤ from + 1 → Ok (Falls a) ≡ unless_one_read (held_in x rows from to) a (Ok (Falls a))
+  pub held_bare : (next : Siblings) → Rest rows next → next.from ≤ rows.from + 1 → Ok (Falls a) ≡ unless_one_read (held_of x rows) a (Ok (Falls a))
   unfolding held_facts_at
-  held_bare n g t l = go (ltb from to) refl
+  held_bare next t l = go (ltb rows.from rows.to) refl
     where
-      go : (b : Bool) → ltb from to ≡ b → Ok (Falls a) ≡ unless_one_read (held_in x rows from to) a (Ok (Falls a))
+      go : (b : Bool) → ltb rows.from rows.to ≡ b → Ok (Falls a) ≡ unless_one_read (held_of x rows) a (Ok (Falls a))
       go true e =
-          let z : n ≡ end_at rows from = rw e at t.is in
-          rw (fold_some (held_facts_at x) g (ltb-true from to e), fold_none (facts_at x) rows (from + 1) (end_at rows from) (omega arith))
-      go false e = held_none (ltb-false from to e)
+          let z : next.from ≡ end_at rows.table.now rows.from = t.starts ∙ rw e in
+          rw (fold_some (held_facts_at x) rows.nested (ltb-true rows.from rows.to e), fold_none (facts_at x) rows.table.now (rows.from + 1) (end_at rows.table.now rows.from) (omega arith))
+      go false e = held_none (ltb-false rows.from rows.to e)
 
-pub ruleset unread = (rules, loops, unread_stops, unread_goes, ones_start, ones_done, ones_stop, ones_on, held_none, held_some, held_bare)
+pub ruleset unread = (rules, unread_stops, unread_goes, ones_done, ones_stop, ones_on, held_none, held_some, held_bare)

@@ -1,15 +1,18 @@
 -- Parts of statements: what the functions answer, from what stands in the code where they return, and that the walk tells its parts apart
 -- in the same way, class by class. Nothing recurses.
-use mathlib.Core.Path.{◌≡◌, refl, sym, ◌∙◌}
+use mathlib.Core.Path.{◌≡◌, refl, sym, ap, ◌∙◌}
 use mathlib.Core.Bool.{Bool, true, false, and-true}
 use mathlib.Core.List.{List}
-use Prim.Native.Nat.{ℕ, ◌+◌}
+use Prim.Native.Nat.{ℕ, ◌+◌, ◌≤◌}
 use lib.Dec.{eqb, ltb}
-use borrow.Author.Tests.{ltb-true, ltb-false}
-use Rattle.table.specs.Rows.{kind_at, side_at, end_at, tree, Nested}
-use Rattle.table.specs.Steps.{RowEnd, NextRow}
+use borrow.Author.Tests.{ltb-true, ltb-false, lt-ltb, le-ltb}
+use Rattle.table.specs.declared.Siblings.{Siblings}
+use Rattle.table.specs.declared.Node.{Node}
+use Rattle.table.specs.Rows.{kind_at, end_at, tree, Nested}
+use Rattle.table.specs.Siblings.{forest, First, Children, Rest, Head}
 use Rattle.table.specs.Fold.{nth, tail}
-use Rattle.table.proofs.Fold.{fold_none, fold_some, fold_tail}
+use Rattle.table.proofs.Fold.{fold_none, fold_some}
+use Rattle.table.proofs.Parts.{fold_rest_part}
 use Rattle.kinds.specs.declared.StmtClass.{StmtClass}
 use Rattle.kinds.specs.declared.StmtClass.TheVariants as K
 use Rattle.kinds.specs.Named.{stmt_class}
@@ -22,27 +25,38 @@ use Rattle.std.specs.Prelude.{Ok}
 use Rattle.da.specs.Outcome.{DaResult, State}
 use Rattle.da.specs.Walk.{DaCtx, Walk, StmtRow, no_walk, unless_one_read, falls_written, walk_of, walk_at, walks}
 use Rattle.da_rows.specs.declared.Part.{Part}
-use Rattle.da_rows.specs.Steps.{facts_in, part_of_class, part_in, is_default_part, is_absent_part, labels_of, labels_in, body_assigns}
+use Rattle.da_rows.specs.declared.Part.TheVariants.{Absent}
+use Rattle.da_rows.specs.Steps.{facts_in, facts_of, part_of_class, part_of_row, part_in, part_of, is_default_part, is_absent_part, labels_of, labels_in, body_assigns}
 
 -- unless_arm_read
-pub arm_labels : (x : ℕ) (rows : List ℕ) (from to end n : ℕ) (a : State) (r : DaResult)
-    → RowEnd rows from to end
-    → NextRow rows (from + 1) end n
-    → r ≡ unless_one_read (facts_in x rows n end) a (Ok (Falls a))
-    → r ≡ unless_one_read (tail (facts_in x rows (from + 1) (end_at rows from))) a (Ok (Falls a))
-arm_labels x rows from to end n a r t s v = v ∙ rw (fold_tail (facts_at x) t.children s.is, t.is)
+pub arm_labels : (x : ℕ) (row : Node) (below labels : Siblings) (a : State) (r : DaResult)
+    → Children row below
+    → Rest below labels
+    → r ≡ unless_one_read (facts_of x labels) a (Ok (Falls a))
+    → r ≡ unless_one_read (tail (facts_in x row.table.now (row.at + 1) row.end)) a (Ok (Falls a))
+arm_labels x row below labels a r b t v =
+    v ∙ ap (λ es. unless_one_read es a (Ok (Falls a))) (fold_rest_part (facts_at x) t ∙ rw (b.same, b.starts, b.ends))
+
+-- unless_label_read, is_absent
+module _ (rows : Siblings) where
+  pub part_first : (row : Node) (p : Part) → First rows row → p ≡ part_of_row row.table.now row.at → part_of rows ≡ p
+  part_first row p f e = sym (e ∙ rw (f.same, f.starts, lt-ltb rows.from rows.to f.some))
+
+  pub part_none : rows.to ≤ rows.from → part_of rows ≡ Absent
+  part_none h = rw (le-ltb rows.from rows.to h)
 
 -- loop_body_assigns
-pub body_stays : (rows : List ℕ) (i from to n s : ℕ) (out : DaOut) (b r : Bool)
+pub body_stays : (s side : ℕ) (body head : Siblings) (out : DaOut) (b r : Bool)
     → b ≡ falls_written out
     → b ≡ true
-    → s ≡ side_at rows i
-    → eqb s 1 ≡ true
-    → Nested rows from to
-    → NextRow rows from to n
-    → r ≡ cannot_escape (tree rows from n)
-    → r ≡ body_assigns rows i from to out
-body_stays rows i from to n s out b r e h p q g t v = v ∙ escape_alone g t.is ∙ rw (← e, h, ← p, q) (sym (and-true (nth true 0 (cannot_escapes (tree rows from to)))))
+    → s ≡ side
+    → s ≡ 1
+    → Head body head
+    → r ≡ cannot_escape (forest head)
+    → r ≡ body_assigns side (forest body) out
+body_stays s side body head out b r e h p q t v =
+    let w : cannot_escape (forest head) ≡ nth true 0 (cannot_escapes (forest body)) = rw (t.same, t.starts) (escape_alone body.nested t.ends) in
+    v ∙ w ∙ rw (← e, h, ← p, q) (sym (and-true (nth true 0 (cannot_escapes (forest body)))))
 
 -- What the walk knows of the first of the rows from `from` up to `to`
 

@@ -1,7 +1,8 @@
 -- How the code goes through the walk of da's Walk over rows of two lent tables: what it sees of them, what evaluating an expression comes
 -- to, what a row is to the statement that holds it, and what the arms of a case and the body of a loop come to. Definitions only.
 use Rattle.std.specs.Prelude.{Bool, true, false, cond, ◌&&◌, not, List, [], ℕ, ◌+◌, eqb, ltb, Result, Ok, Err}
-use Rattle.table.specs.Rows.{kind_at, side_at, lo_at, hi_at, end_at, tree}
+use Rattle.table.specs.declared.Siblings.{Siblings}
+use Rattle.table.specs.Rows.{kind_at, side_at, lo_at, hi_at, end_at, Forest, tree}
 use Rattle.table.specs.Fold.{nth, tail}
 use Rattle.kinds.specs.declared.StmtClass.{StmtClass}
 use Rattle.kinds.specs.declared.StmtClass.TheVariants as K
@@ -35,9 +36,19 @@ facts_in x rows from to = expr_facts x (tree rows from to)
 abbrev pub fact_in : ℕ → List ℕ → ℕ → ℕ → ExprFacts
 fact_in x rows from to = nth no_facts 0 (facts_in x rows from to)
 
+-- the same of a part of a table
+abbrev pub facts_of : ℕ → Siblings → List ExprFacts
+facts_of x rows = facts_in x rows.table.now rows.from rows.to
+
+abbrev pub fact_of : ℕ → Siblings → ExprFacts
+fact_of x rows = fact_in x rows.table.now rows.from rows.to
+
 -- the facts of what the first of them holds
 abbrev pub held_in : ℕ → List ℕ → ℕ → ℕ → List ExprFacts
 held_in x rows from to = nth [] 0 (held_facts x (tree rows from to))
+
+abbrev pub held_of : ℕ → Siblings → List ExprFacts
+held_of x rows = held_in x rows.table.now rows.from rows.to
 
 -- the span of the first of them, its lower end first; zeros where there is none
 abbrev pub first_lo : List ℕ → ℕ → ℕ → ℕ
@@ -46,6 +57,10 @@ first_lo rows from to = cond (ltb from to) (lo_at rows from) 0
 -- and its upper end
 abbrev pub first_hi : List ℕ → ℕ → ℕ → ℕ
 first_hi rows from to = cond (ltb from to) (hi_at rows from) 0
+
+-- reason 2 there: "reason 2 carries the expression's span"
+abbrev pub read_in : Siblings → DaGiveUp
+read_in rows = record { reason = 2; lo = first_lo rows.table.now rows.from rows.to; hi = first_hi rows.table.now rows.from rows.to }
 
 -- the states after an expression whose value tells nothing
 abbrev pub always : State → States
@@ -111,6 +126,9 @@ part_of_row rows i = part_of_class (stmt_class (kind_at rows i))
 abbrev pub part_in : List ℕ → ℕ → ℕ → Part
 part_in rows from to = cond (ltb from to) (part_of_row rows from) Absent
 
+abbrev pub part_of : Siblings → Part
+part_of rows = part_in rows.table.now rows.from rows.to
+
 -- "default S": the arm of a case that a default is
 abbrev pub is_default_part : Part → Bool
 is_default_part Match = false
@@ -136,10 +154,13 @@ labels_of Statement es = []
 abbrev pub labels_in : ℕ → List ℕ → ℕ → ℕ → List ExprFacts
 labels_in x rows from to = labels_of (part_in rows from to) (facts_in x rows (from + 1) (end_at rows from))
 
+abbrev pub first_labels : ℕ → Siblings → List ExprFacts
+first_labels x rows = labels_in x rows.table.now rows.from rows.to
+
 -- "Some(m) if has_default && !after => Ok(m), _ => Ok(DaOut::Falls(after))"
 abbrev pub case_out : Bool → State → DaOut → DaOut
 case_out has_default after all = cond (has_default && not (is_written after)) all (Falls after)
 
--- loop_body_assigns, of the loop in row i and its body, the first of the rows from `from` up to `to`
-abbrev pub body_assigns : List ℕ → ℕ → ℕ → ℕ → DaOut → Bool
-body_assigns rows i from to out = falls_written out && (nth true 0 (cannot_escapes (tree rows from to)) && eqb (side_at rows i) 1)
+-- loop_body_assigns, of a loop with this side number and its body, the first of these siblings
+abbrev pub body_assigns : ℕ → Forest → DaOut → Bool
+body_assigns side body out = falls_written out && (nth true 0 (cannot_escapes body) && eqb side 1)

@@ -2,18 +2,20 @@
 // not written, and what a row is to the statement that holds it. da/mod.rs, over rows.
 #![tactic(auto)]
 
-ghost use Rattle.std.specs.Prelude.{◌≡◌, ◌&&◌, ◌||◌, not, ◌+◌, ◌*◌, ◌<◌, length, Ok};
-ghost use Rattle.table.specs.Rows.{Nested, tree, end_at};
+ghost use Rattle.std.specs.Prelude.{◌≡◌, ◌&&◌, ◌||◌, not, ◌+◌, Ok};
+ghost use Rattle.table.specs.Rows.{side_at};
+ghost use Rattle.table.specs.Siblings.{forest};
 ghost use Rattle.table.specs.Fold.{tail};
 ghost use Rattle.reads.specs.declared.Iff.TheVariants.{Skipped};
 ghost use Rattle.reads.specs.Mentions.{refers as refers_in};
 ghost use Rattle.da.specs.declared.DaOut.TheVariants.{Falls};
 ghost use Rattle.da.specs.Walk.{unless_read, unless_one_read, falls_written};
-ghost use Rattle.da_rows.specs.Steps.{first_lo, first_hi, fact_in, facts_in, held_in, always as always_of, evaluation, give_up_at, part_of_class, part_of_row, part_in, is_default_part, is_absent_part, labels_in, case_out, body_assigns};
+ghost use Rattle.da_rows.specs.Steps.{facts_in, facts_of, fact_of, held_of, read_in, always as always_of, evaluation, give_up_at, part_of_class, part_of_row, part_of, is_default_part, is_absent_part, first_labels, case_out, body_assigns};
 
 use da::{DaGiveUp, DaOut, DaResult};
 use effect_rules::ExprDa;
 use kinds::StmtClass;
+use table::{Node, Siblings};
 
 // What a walk is given beside the tables: the local, and whether this block is the only writer of the net.
 #[derive(Clone, Copy)]
@@ -43,55 +45,45 @@ impl States {
     }
 }
 
-// A give-up at row i.
-pub fn give_up(rows: &[u32], i: usize, reason: u32) -> DaGiveUp
-    requires { 5 * i + 4 < length rows.now }
-    ensures { result ≡ give_up_at rows.now i reason }
+// A give-up at a row.
+pub fn give_up(row: Node, reason: u32) -> DaGiveUp
+    ensures { result ≡ give_up_at row.entry.table.now row.entry.at reason }
 {
     DaGiveUp {
         reason,
-        lo: table::lo_at(rows, i),
-        hi: table::hi_at(rows, i),
+        lo: row.lo(),
+        hi: row.hi(),
     }
 }
 
-// Reason 2 at the first of the rows from `from` up to `to`.
-fn read_at(rows: &[u32], from: usize, to: usize) -> DaGiveUp
-    requires { Nested rows.now from to }
-    ensures { result ≡ record { reason = 2; lo = first_lo rows.now from to; hi = first_hi rows.now from to } }
+// Reason 2 at the first of these rows.
+fn read_at(rows: Siblings) -> DaGiveUp
+    ensures { result ≡ read_in rows.entry }
 {
-    if from < to {
-        give_up(rows, from, 2)
-    } else {
-        DaGiveUp {
+    match rows.first() {
+        Some(row) => give_up(row, 2),
+        None => DaGiveUp {
             reason: 2,
             lo: 0,
             hi: 0,
-        }
+        },
     }
 }
 
-// The first of the rows from `from` up to `to`, an expression, is evaluated. Once the local is written, no row is looked at. Most
-// expressions have nothing to do with the local, which one flat pass over their rows tells; the effect is worked out for the others.
-pub fn evaluate(
-    rows: &[u32],
-    local: usize,
-    from: usize,
-    to: usize,
-    assigned: bool,
-) -> Result<States, DaGiveUp>
-    requires { Nested rows.now from to }
-    ensures { result ≡ evaluation (fact_in local rows.now from to) assigned }
+// The first of these rows, an expression, is evaluated. Once the local is written, no row is looked at. Most expressions have nothing to do
+// with the local, which one flat pass over their rows tells; the effect is worked out for the others.
+pub fn evaluate(rows: Siblings, local: usize, assigned: bool) -> Result<States, DaGiveUp>
+    ensures { result ≡ evaluation (fact_of local rows.entry) assigned }
 {
     if assigned {
         return Ok(States::always(true));
     }
-    if expr_effect::all_quiet(rows, local, from, to) {
+    if expr_effect::all_quiet(rows, local) {
         return Ok(States::always(false));
     }
-    let e = expr_effect::expr_writes_when(rows, local, from, to);
+    let e = expr_effect::expr_writes_when(rows, local);
     match e.effect {
-        ExprDa::Reads => Err(read_at(rows, from, to)),
+        ExprDa::Reads => Err(read_at(rows)),
         ExprDa::Writes => Ok(States::always(true)),
         ExprDa::Clean => Ok(States {
             after: false,
@@ -101,71 +93,52 @@ pub fn evaluate(
     }
 }
 
-// The first of the rows from `from` up to `to`, an expression of which no write is claimed.
+// The first of these rows, an expression of which no write is claimed.
 #[tactic(auto, using(crate::proofs::Asking::unless_onward))]
-pub fn unless_read(rows: &[u32], local: usize, from: usize, to: usize, assigned: bool) -> DaResult
-    requires { Nested rows.now from to }
-    ensures { result ≡ unless_read (fact_in local rows.now from to) assigned (Ok (Falls assigned)) }
+pub fn unless_read(rows: Siblings, local: usize, assigned: bool) -> DaResult
+    ensures { result ≡ unless_read (fact_of local rows.entry) assigned (Ok (Falls assigned)) }
 {
-    evaluate(rows, local, from, to, assigned)?;
+    evaluate(rows, local, assigned)?;
     Ok(DaOut::Falls(assigned))
 }
 
-// Each of the rows from `from` up to `to`, expressions of which no write is claimed.
-fn unless_one_read(rows: &[u32], local: usize, from: usize, to: usize, assigned: bool) -> DaResult
-    requires { Nested rows.now from to }
-    ensures { result ≡ unless_one_read (facts_in local rows.now from to) assigned (Ok (Falls assigned)) }
+// Each of these rows, expressions of which no write is claimed.
+fn unless_one_read(rows: Siblings, local: usize, assigned: bool) -> DaResult
+    ensures { result ≡ unless_one_read (facts_of local rows.entry) assigned (Ok (Falls assigned)) }
 {
-    let mut child = from;
-    while child < to {
-        unless_read(rows, local, child, to, assigned)?;
-        child = table::row_end(rows, child, to);
+    let mut left = rows;
+    while !left.is_empty() {
+        unless_read(left, local, assigned)?;
+        left = left.rest();
     }
     Ok(DaOut::Falls(assigned))
 }
 
-// What the first of the rows from `from` up to `to` holds: the values of a delay.
-pub fn unless_held_read(
-    rows: &[u32],
-    local: usize,
-    from: usize,
-    to: usize,
-    assigned: bool,
-) -> DaResult
-    requires { Nested rows.now from to }
-    ensures { result ≡ unless_one_read (held_in local rows.now from to) assigned (Ok (Falls assigned)) }
+// What the first of these rows holds: the values of a delay.
+pub fn unless_held_read(rows: Siblings, local: usize, assigned: bool) -> DaResult
+    ensures { result ≡ unless_one_read (held_of local rows.entry) assigned (Ok (Falls assigned)) }
 {
-    if to <= from {
-        return Ok(DaOut::Falls(assigned));
+    match rows.first() {
+        Some(row) => unless_one_read(row.children(), local, assigned),
+        None => Ok(DaOut::Falls(assigned)),
     }
-    let end = table::row_end(rows, from, to);
-    unless_one_read(rows, local, from + 1, end, assigned)
 }
 
 // The same of the delay of an assignment: most have none, and that is told without a call.
-pub fn unless_delay_read(
-    rows: &[u32],
-    local: usize,
-    from: usize,
-    to: usize,
-    assigned: bool,
-) -> DaResult
-    requires { Nested rows.now from to }
-    ensures { result ≡ unless_one_read (held_in local rows.now from to) assigned (Ok (Falls assigned)) }
+pub fn unless_delay_read(rows: Siblings, local: usize, assigned: bool) -> DaResult
+    ensures { result ≡ unless_one_read (held_of local rows.entry) assigned (Ok (Falls assigned)) }
 {
-    let next = table::next_at(rows, from, to);
-    if next <= from + 1 {
+    if rows.rest().from <= rows.from + 1 {
         return Ok(DaOut::Falls(assigned));
     }
-    unless_held_read(rows, local, from, to, assigned)
+    unless_held_read(rows, local, assigned)
 }
 
-// Whether the rows from `from` up to `to` refer to a local that is not written: an event is not evaluated, but vetted.
-pub fn refers_unwritten(rows: &[u32], local: usize, from: usize, to: usize, assigned: bool) -> bool
-    requires { Nested rows.now from to }
-    ensures { result ≡ not assigned && refers_in Skipped local (tree rows.now from to) }
+// Whether these rows refer to a local that is not written: an event is not evaluated, but vetted.
+pub fn refers_unwritten(rows: Siblings, local: usize, assigned: bool) -> bool
+    ensures { result ≡ not assigned && refers_in Skipped local (forest rows.entry) }
 {
-    !assigned && !reads::no_ref(rows, local, from, to)
+    !assigned && !reads::no_ref(rows, local)
 }
 
 // What a row is to the statement that holds it.
@@ -188,54 +161,47 @@ fn part_of_class(class: StmtClass) -> Part
     }
 }
 
-fn part_of_row(rows: &[u32], i: usize) -> Part
-    requires { 5 * i + 4 < length rows.now }
-    ensures { result ≡ part_of_row rows.now i }
+// What the rules call a row as a part.
+fn part_of_row(row: Node) -> Part
+    ensures { result ≡ part_of_row row.entry.table.now row.entry.at }
 {
-    part_of_class(kinds::stmt_class(table::kind_at(rows, i)))
+    part_of_class(kinds::stmt_class(row.kind()))
 }
 
-// Whether row i is the default of a case.
-pub fn is_default(rows: &[u32], i: usize) -> bool
-    requires { 5 * i + 4 < length rows.now }
-    ensures { result ≡ is_default_part (part_of_row rows.now i) }
+// Whether a row is the default of a case.
+pub fn is_default(row: Node) -> bool
+    ensures { result ≡ is_default_part (part_of_row row.entry.table.now row.entry.at) }
 {
-    matches!(part_of_row(rows, i), Part::Default)
+    matches!(part_of_row(row), Part::Default)
 }
 
-// Whether no statement is the first of the rows from `from` up to `to`.
-pub fn is_absent(rows: &[u32], from: usize, to: usize) -> bool
-    requires { Nested rows.now from to }
-    ensures { result ≡ is_absent_part (part_in rows.now from to) }
+// Whether no statement is the first of these rows.
+pub fn is_absent(rows: Siblings) -> bool
+    ensures { result ≡ is_absent_part (part_of rows.entry) }
 {
-    to <= from || matches!(part_of_row(rows, from), Part::Absent)
-}
-
-// The labels of an arm, which stand after its body; `from` is its row, the first of the rows up to `to`.
-fn unless_arm_read(rows: &[u32], local: usize, from: usize, to: usize, assigned: bool) -> DaResult
-    requires { (Nested rows.now from to) × (from < to) }
-    ensures { result ≡ unless_one_read (tail (facts_in local rows.now (from + 1) (end_at rows.now from))) assigned (Ok (Falls assigned)) }
-{
-    let end = table::row_end(rows, from, to);
-    let labels = table::next_at(rows, from + 1, end);
-    unless_one_read(rows, local, labels, end, assigned)
-}
-
-// The labels of the first of the rows from `from` up to `to`, an arm of a case; a default has none.
-pub fn unless_label_read(
-    rows: &[u32],
-    local: usize,
-    from: usize,
-    to: usize,
-    assigned: bool,
-) -> DaResult
-    requires { Nested rows.now from to }
-    ensures { result ≡ unless_one_read (labels_in local rows.now from to) assigned (Ok (Falls assigned)) }
-{
-    if from < to && matches!(part_of_row(rows, from), Part::Match) {
-        return unless_arm_read(rows, local, from, to, assigned);
+    match rows.first() {
+        Some(row) => matches!(part_of_row(row), Part::Absent),
+        None => true,
     }
-    Ok(DaOut::Falls(assigned))
+}
+
+// The labels of an arm, which stand after its body.
+fn unless_arm_read(row: Node, local: usize, assigned: bool) -> DaResult
+    ensures { result ≡ unless_one_read (tail (facts_in local row.entry.table.now (row.entry.at + 1) row.entry.end)) assigned (Ok (Falls assigned)) }
+{
+    unless_one_read(row.children().rest(), local, assigned)
+}
+
+// The labels of the first of these rows, an arm of a case; a default has none.
+pub fn unless_label_read(rows: Siblings, local: usize, assigned: bool) -> DaResult
+    ensures { result ≡ unless_one_read (first_labels local rows.entry) assigned (Ok (Falls assigned)) }
+{
+    match rows.first() {
+        Some(row) if matches!(part_of_row(row), Part::Match) => unless_arm_read(
+            row, local, assigned,
+        ),
+        _ => Ok(DaOut::Falls(assigned)),
+    }
 }
 
 // What a case comes to, from what its arms do: without a default no arm may run.
@@ -254,20 +220,19 @@ fn falls_written(out: DaOut) -> bool
     matches!(out, DaOut::Falls(true))
 }
 
-// loop_body_assigns, of the loop in row i and its body, the first of the rows from `from` up to `to`.
-fn loop_body_assigns(rows: &[u32], i: usize, from: usize, to: usize, out: DaOut) -> bool
-    requires { (Nested rows.now from to) × (i < from) }
-    ensures { result ≡ body_assigns rows.now i from to out }
+// loop_body_assigns, of the loop in a row and its body, the first of these rows.
+fn loop_body_assigns(row: Node, body: Siblings, out: DaOut) -> bool
+    ensures { result ≡ body_assigns (side_at row.entry.table.now row.entry.at) (forest body.entry) out }
 {
-    falls_written(out)
-        && table::side_at(rows, i) == 1
-        && loops::stmt_cannot_escape(rows, from, table::next_at(rows, from, to))
+    if !falls_written(out) {
+        return false;
+    }
+    row.side() == 1 && loops::stmt_cannot_escape(body.head())
 }
 
 // Whether the local is written after the rounds of a loop. Where it is so after the condition, the body is not looked at.
-pub fn rounds_write(rows: &[u32], i: usize, from: usize, to: usize, out: DaOut, after: bool) -> bool
-    requires { (Nested rows.now from to) × (i < from) }
-    ensures { result ≡ after || body_assigns rows.now i from to out }
+pub fn rounds_write(row: Node, body: Siblings, out: DaOut, after: bool) -> bool
+    ensures { result ≡ after || body_assigns (side_at row.entry.table.now row.entry.at) (forest body.entry) out }
 {
-    after || loop_body_assigns(rows, i, from, to, out)
+    after || loop_body_assigns(row, body, out)
 }

@@ -6,8 +6,8 @@ use Rattle.table.specs.declared.Node.{Node}
 use Rattle.table.specs.Rows.{kind_at, side_at, lo_at, hi_at, end_at, nil, node, tree, Nested, rest}
 use Rattle.table.specs.Steps.{next_of}
 use Rattle.table.specs.Siblings.{forest, First, Children, Rest, Head}
-use Rattle.table.specs.Fold.{Alg, fold, nth}
-use Rattle.table.proofs.Fold.{fold_first, fold_next}
+use Rattle.table.specs.Fold.{Alg, fold, nth, tail}
+use Rattle.table.proofs.Fold.{fold_first, fold_next, fold_tail}
 use native.Mathlib.Omega.{arith}
 use mathlib.Core.Bool.{Bool, true, false, not}
 use lib.Dec.{leb}
@@ -43,10 +43,14 @@ module _ (rows : Siblings) (b : Bool) (e : b ≡ leb rows.to rows.from) where
   pub none_left : not b ≡ false → rows.to ≤ rows.from
   none_left n = leb-true rows.to rows.from (sym e ∙ not-false b n)
 
--- folds: of the first alone, and from those after it on
+-- folds: of the first alone, of those after it, and of one of these
 module _ {A : Type 0} (alg : Alg A) (d : A) where
   pub fold_head : {rows head : Siblings} → Head rows head → nth d 0 (fold alg (forest head)) ≡ nth d 0 (fold alg (forest rows))
   fold_head {rows} {head} h = rw (h.same, h.starts) (fold_first alg d rows.nested h.ends)
 
   pub fold_next_part : {rows after : Siblings} (i : ℕ) → Rest rows after → nth d i (fold alg (forest after)) ≡ nth d (suc i) (fold alg (forest rows))
   fold_next_part {rows} {after} i r = rw (r.same, r.ends) (fold_next alg d i rows.nested r.starts)
+
+module _ {A : Type 0} (alg : Alg A) where
+  pub fold_rest_part : {rows after : Siblings} → Rest rows after → fold alg (forest after) ≡ tail (fold alg (forest rows))
+  fold_rest_part {rows} {after} r = rw (r.same, r.ends) (fold_tail alg rows.nested r.starts)
