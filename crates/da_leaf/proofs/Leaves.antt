@@ -1,107 +1,125 @@
 -- The other arms of da_stmt that walk no statement: what the functions answer, from what stands in the code where they return. Nothing
 -- recurses: each is a rule of da's Walk, unfolded at a row.
-use mathlib.Core.Path.{◌≡◌, refl, sym, ◌∙◌}
+use mathlib.Core.Path.{◌≡◌, refl, sym, ap, ◌∙◌}
 use mathlib.Core.Bool.{Bool, true, false, not, ◌&&◌}
 use mathlib.Core.List.{List, []}
-use Prim.Native.Nat.{ℕ, ◌+◌, ◌*◌, ◌<◌}
-use native.Mathlib.Omega.{arith}
-use lib.Dec.{ltb}
-use lib.ListN.{length}
+use Prim.Native.Nat.{ℕ, suc, ◌+◌, ◌≤◌, ◌<◌}
+use lib.Dec.{eqb, leb}
 use borrow.Author.Rules.{rules}
-use borrow.Author.Tests.{ne_eqb, ltb-true, ltb-false}
-use Rattle.table.specs.Rows.{kind_at, side_at, lo_at, hi_at, end_at, Forest, nil, node, tree, Nested}
-use Rattle.table.specs.Steps.{RowAlone, NextRow}
-use Rattle.table.proofs.Ranges.{ends_within, children}
-use Rattle.table.proofs.Tree.{tree_none, tree_some, tree_alone}
+use native.Mathlib.Omega.{arith}
+use borrow.Author.Tests.{ne_eqb, leb-true, leb-false}
+use Rattle.table.specs.declared.Siblings.{Siblings}
+use Rattle.table.specs.declared.Node.{Node}
+use Rattle.table.specs.Rows.{kind_at, side_at, lo_at, hi_at, Forest, nil, node, tree, rest}
+use Rattle.table.specs.Steps.{RowAlone}
+use Rattle.table.specs.Siblings.{forest, First, Children, Alone, Rest, Head}
+use Rattle.table.specs.Fold.{nth}
+use Rattle.table.proofs.Tree.{tree_some, tree_alone}
+use Rattle.table.proofs.Parts.{forest_none, forest_some, forest_rest, nil_node}
 use Rattle.kinds.specs.declared.StmtClass.{StmtClass}
 use Rattle.kinds.specs.declared.StmtClass.TheVariants as K
 use Rattle.kinds.proofs.Below.{true_not_false}
 use Rattle.reads.specs.declared.Iff.TheVariants.{Skipped}
-use Rattle.reads.specs.PathRows.{count, segments, is_marked, is_loop_jump}
+use Rattle.reads.specs.PathRows.{count, is_marked, is_loop_jump}
 use Rattle.reads.specs.Mentions.{refers}
 use Rattle.reads.specs.NoRef.{vetting, vetted, stmt_no_ref}
-use Rattle.expr_effect.proofs.Facts.{fact_refers}
-use Rattle.sheet_record.specs.Records.{marks_of}
+use Rattle.expr_effect.specs.Law.{no_facts}
+use Rattle.expr_effect.proofs.Facts.{part_refers}
 use Rattle.da.specs.declared.DaOut.TheVariants.{Falls}
 use Rattle.da.specs.declared.DaGiveUp.{DaGiveUp}
 use Rattle.std.specs.Prelude.{Ok, Err}
 use Rattle.da.specs.Outcome.{DaResult, State, is_written}
-use Rattle.da.specs.Walk.{DaCtx, held_facts, walk_of}
+use Rattle.da.specs.Walk.{DaCtx, unless_read, unless_one_read, held_facts, walk_of}
 use Rattle.da_rows.specs.declared.Context.{Context}
-use Rattle.da_rows.specs.Steps.{untimed, facts_in, fact_in, give_up_at}
+use Rattle.da_rows.specs.Steps.{untimed, facts_in, fact_in, facts_of, fact_of, held_in, held_of, give_up_at}
 use Rattle.da_leaf.specs.Steps.{event_control_at, LeafRow, leaf_at, vetted_row, referring_at}
 
 -- is_loop_jump
-module _ (rows : List ℕ) (from to n : ℕ) (e : n ≡ segments (tree rows from to)) where
-  pub jump_other : (marks : ℕ → Bool) → (n ≡ 1 → ⊥) → false ≡ is_loop_jump marks (tree rows from to)
-  unfolding is_loop_jump segments
-  jump_other marks h = go (tree rows from to) refl
-    where
-      go : (f : Forest) → tree rows from to ≡ f → false ≡ is_loop_jump marks f
-      go nil q = refl
-      go (node k s lo hi cs others) q = rw (ne_eqb (count cs) 1 λ v. h (e ∙ (rw q) ∙ v))
+pub jump_none : (marks : ℕ → Bool) (rows : Siblings) → rows.to ≤ rows.from → false ≡ is_loop_jump marks (forest rows)
+unfolding is_loop_jump
+jump_none marks rows h = rw (forest_none rows h)
 
-  module _ (g : Nested rows from to) (h : n ≡ 1) where
-    not_none : ltb from to ≡ false → ⊥
-    unfolding segments
-    not_none q = let z : ◌≡◌ {A = ℕ} 0 1 = rw (tree_none rows from to (ltb-false from to q)) at (sym e ∙ h) in omega arith
+module _ (marks : ℕ → Bool) (rows segments : Siblings) (path : Node) (f : First rows path) (c : Children path segments) where
+  pub jump_empty : segments.to ≤ segments.from → false ≡ is_loop_jump marks (forest rows)
+  unfolding is_loop_jump count
+  jump_empty h = rw (forest_some f c, forest_none segments h)
 
-    is_some : from < to
-    is_some = go (ltb from to) refl
-      where
-        go : (b : Bool) → ltb from to ≡ b → from < to
-        go true q = ltb-true from to q
-        go false q = absurd (not_none q)
+  module _ (segment : Node) (others : Siblings) (b : Bool) (g : First segments segment) (r : Rest segments others) (e : b ≡ leb others.to others.from) where
+    jump_some : is_loop_jump marks (forest rows) ≡ eqb (suc (count (forest others))) 1 && marks (side_at segment.table.now segment.at)
+    unfolding is_loop_jump count is_marked rest
+    jump_some = rw (forest_some f c, forest_rest r, tree_some segments.nested g.some, g.same, g.starts)
 
-    one_below : count (tree rows (from + 1) (end_at rows from)) ≡ 1
-    unfolding segments
-    one_below = rw (tree_some g is_some) at (sym e ∙ h)
-
-    has_segment : from + 1 < end_at rows from
+    counted : (f : Forest) → f ≡ forest others → (left : Bool) → b ≡ left → eqb (suc (count f)) 1 ≡ left
     unfolding count
-    has_segment = go (ltb (from + 1) (end_at rows from)) refl
-      where
-        go : (b : Bool) → ltb (from + 1) (end_at rows from) ≡ b → from + 1 < end_at rows from
-        go true q = ltb-true (from + 1) (end_at rows from) q
-        go false q = let z : ◌≡◌ {A = ℕ} 0 1 = rw (tree_none rows (from + 1) (end_at rows from) (ltb-false (from + 1) (end_at rows from) q)) at one_below in omega arith
+    counted nil q true t = refl
+    counted nil q false t = let h : others.from < others.to = leb-false others.to others.from (sym e ∙ t) in nil_node (q ∙ tree_some others.nested h)
+    counted (node k s lo hi cs others') q true t = let h : others.to ≤ others.from = leb-true others.to others.from (sym e ∙ t) in nil_node (sym (q ∙ forest_none others h))
+    counted (node k s lo hi cs others') q false t = ne_eqb (suc (suc (count others'))) 1 (λ v. omega arith)
 
-    pub segment_held : 5 * (from + 1) + 4 < length rows
-    segment_held = omega (arith, has_segment, ends_within g is_some, g.held)
+    pub jump_more : b ≡ false → b ≡ is_loop_jump marks (forest rows)
+    jump_more t = t ∙ sym (jump_some ∙ rw (counted (forest others) refl false t))
 
-    pub jump_marked : (names : List ℕ) (s : ℕ) (r : Bool) → s ≡ side_at rows (from + 1) → r ≡ marks_of names s → r ≡ is_loop_jump (marks_of names) (tree rows from to)
-    unfolding is_loop_jump is_marked
-    jump_marked names s r p v = rw (tree_some g is_some, one_below, tree_some (children g is_some) has_segment, ← p) v
+    pub jump_one : (s : ℕ) (r : Bool) → b ≡ true → s ≡ side_at segment.table.now segment.at → r ≡ marks s → r ≡ is_loop_jump marks (forest rows)
+    jump_one s r t v w = w ∙ rw v (sym (jump_some ∙ rw (counted (forest others) refl true t)))
+
+pub ruleset jumps = (jump_none, jump_empty, jump_more, jump_one)
 
 -- da_eventctrl
-module _ (x : ℕ) (rows : List ℕ) (i end n : ℕ) (a : State) (b : Bool) (g : RowAlone rows i end) (t : NextRow rows (i + 1) end n) (e : b ≡ not a && refers Skipped x (tree rows (i + 1) n)) where
-  control_asks : not (is_written a) && (fact_in x rows (i + 1) end).refers ≡ b
-  control_asks = rw (fact_refers x g.children n t.is) (sym e)
+module _ (x : ℕ) (row : Node) (below event : Siblings) (a : State) (b : Bool) (c : Children row below) (t : Head below event) (e : b ≡ not a && refers Skipped x (forest event)) where
+  control_asks : not (is_written a) && (fact_in x row.table.now (row.at + 1) row.end).refers ≡ b
+  control_asks = rw (← c.same, ← c.starts, ← c.ends, part_refers x t) (sym e)
 
-  pub control_stops : (stop : DaGiveUp) → b ≡ true → stop ≡ give_up_at rows i 8 → Err stop ≡ event_control_at x rows i end a
+  pub control_stops : (stop : DaGiveUp) → b ≡ true → stop ≡ give_up_at row.table.now row.at 8 → Err stop ≡ event_control_at x row.table.now row.at row.end a
   control_stops stop h s = rw (control_asks, h, s)
 
-  pub control_goes : b ≡ false → Ok (Falls a) ≡ event_control_at x rows i end a
+  pub control_goes : b ≡ false → Ok (Falls a) ≡ event_control_at x row.table.now row.at row.end a
   control_goes h = rw (control_asks, h)
 
-pub ruleset leaves = (rules, jump_other, segment_held, jump_marked, control_stops, control_goes)
+-- what is asked of what a row holds
+module _ (x : ℕ) (row : Node) (below : Siblings) (a : State) (c : Children row below) where
+  below_facts : facts_of x below ≡ facts_in x row.table.now (row.at + 1) row.end
+  below_facts = rw (c.same, c.starts, c.ends)
+
+  pub below_read : (next r : DaResult) → r ≡ unless_read (fact_of x below) a next → r ≡ unless_read (fact_in x row.table.now (row.at + 1) row.end) a next
+  below_read next r e = e ∙ ap (λ es. unless_read (nth no_facts 0 es) a next) below_facts
+
+  pub below_held : (next r : DaResult) → r ≡ unless_one_read (held_of x below) a next → r ≡ unless_one_read (held_in x row.table.now (row.at + 1) row.end) a next
+  below_held next r e = e ∙ rw (c.same, c.starts, c.ends)
+
+pub ruleset leaves = (rules, control_stops, control_goes, below_read, below_held)
 
 -- da_leaf: the row by what stmt_no_ref answers of it
 abbrev leaf_with : DaCtx → List ℕ → StmtClass → ℕ → ℕ → Bool → State → DaResult
 leaf_with ctx rows class i end clear a =
     (walk_of ctx class (vetted_row ctx rows i end clear) (facts_in ctx.local rows (i + 1) end) (held_facts ctx.local (tree rows (i + 1) end)) []).walk a
 
-module _ (ctx : Context) (rows names : List ℕ) (class : StmtClass) (i end : ℕ) (a : State) (clear : Bool) (l : LeafRow rows class i end) (e : clear ≡ stmt_no_ref ctx.local (tree rows i end)) where
+tree_row : {rows : List ℕ} {i end : ℕ} → RowAlone rows i end → tree rows i end ≡ node (kind_at rows i) (side_at rows i) (lo_at rows i) (hi_at rows i) (tree rows (i + 1) end) nil
+tree_row l = rw l.is (tree_alone l.alone l.after)
+
+module _ (ctx : Context) (row : Node) (class : StmtClass) (a : State) (clear : Bool) (l : LeafRow row.table.now class row.at row.end) (alone : Siblings) (o : Alone row alone) (e : clear ≡ stmt_no_ref ctx.local (forest alone)) where
+  abbrev rows : List ℕ
+  rows = row.table.now
+
+  abbrev i : ℕ
+  i = row.at
+
+  abbrev end : ℕ
+  end = row.end
+
+  alone_is : clear ≡ stmt_no_ref ctx.local (tree rows i end)
+  alone_is = e ∙ rw (o.same, o.starts, o.ends)
+
   row_tree_lem : tree rows i end ≡ node (kind_at rows i) (side_at rows i) (lo_at rows i) (hi_at rows i) (tree rows (i + 1) end) nil
-  row_tree_lem = rw l.row.is (tree_alone l.row.alone l.row.after)
+  row_tree_lem = tree_row l.row
 
-  leaf_is : leaf_at (untimed ctx names) rows class i end a ≡ leaf_with (untimed ctx names) rows class i end clear a
-  leaf_is = rw (e, row_tree_lem)
+  leaf_is : leaf_at (untimed ctx) rows class i end a ≡ leaf_with (untimed ctx) rows class i end clear a
+  leaf_is = rw (alone_is, row_tree_lem)
 
-  pub leaf_refers : (r : DaResult) → clear ≡ false → r ≡ referring_at (untimed ctx names) rows class i end a → r ≡ leaf_at (untimed ctx names) rows class i end a
+  pub leaf_refers : (r : DaResult) → clear ≡ false → r ≡ referring_at (untimed ctx) rows class i end a → r ≡ leaf_at (untimed ctx) rows class i end a
   leaf_refers r h v = v ∙ sym (leaf_is ∙ rw h)
 
   -- "if stmt_no_ref(st, name) { return Ok(DaOut::Falls(assigned)); }"
-  vetted_falls : (named : StmtClass) → vetted (vetting named) ctx.local (tree rows (i + 1) end) ≡ true → Ok (Falls a) ≡ leaf_with (untimed ctx names) rows named i end true a
+  vetted_falls : (named : StmtClass) → vetted (vetting named) ctx.local (tree rows (i + 1) end) ≡ true → Ok (Falls a) ≡ leaf_with (untimed ctx) rows named i end true a
   vetted_falls K.Absent h = refl
   vetted_falls K.Match h = refl
   vetted_falls K.Default h = refl
@@ -127,10 +145,10 @@ module _ (ctx : Context) (rows names : List ℕ) (class : StmtClass) (i end : �
   vetted_falls K.Unmodelled h = refl
   vetted_falls K.NoStmt h = refl
 
-  pub leaf_clear : clear ≡ true → Ok (Falls a) ≡ leaf_at (untimed ctx names) rows class i end a
+  pub leaf_clear : clear ≡ true → Ok (Falls a) ≡ leaf_at (untimed ctx) rows class i end a
   unfolding stmt_no_ref
   leaf_clear h =
-      let v : vetted (vetting class) ctx.local (tree rows (i + 1) end) ≡ true = rw l.is (rw (row_tree_lem, h) at (sym e)) in
+      let v : vetted (vetting class) ctx.local (tree rows (i + 1) end) ≡ true = rw l.is (rw (row_tree_lem, h) at (sym alone_is)) in
       vetted_falls class v ∙ sym (leaf_is ∙ rw h)
 
 pub ruleset leaf_answers = (rules, leaf_refers, leaf_clear)

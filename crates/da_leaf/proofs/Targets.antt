@@ -5,10 +5,12 @@ use mathlib.Core.Bool.{Bool, true, false, cond, not, ◌&&◌, not-not}
 use mathlib.Core.List.{List}
 use Prim.Native.Nat.{ℕ, ◌+◌, ◌≤◌, ◌<◌}
 use borrow.Author.Rules.{rules}
-use Rattle.table.specs.Rows.{kind_at, end_at, Forest, tree, Nested}
-use Rattle.table.specs.Steps.{RowEnd, RowAlone, NextRow}
+use Rattle.table.specs.declared.Siblings.{Siblings}
+use Rattle.table.specs.declared.Node.{Node}
+use Rattle.table.specs.Rows.{kind_at, end_at, Forest, tree}
+use Rattle.table.specs.Siblings.{forest, First, Children, Rest, Head}
 use Rattle.table.specs.Fold.{nth}
-use Rattle.table.proofs.Fold.{fold_next}
+use Rattle.table.proofs.Parts.{fold_next_part}
 use Rattle.kinds.specs.declared.ExprClass.{ExprClass}
 use Rattle.kinds.specs.declared.ExprClass.TheVariants.{Ident, Call, Lident, Opaque, Event, Unary, Binary, Ternary, Paren, Other}
 use Rattle.kinds.specs.Named.{expr_class}
@@ -17,7 +19,7 @@ use Rattle.reads.specs.PathRows.{is_local}
 use Rattle.reads.specs.Mentions.{refers}
 use Rattle.reads.specs.NoRef.{lvalue_no_ref}
 use Rattle.expr_effect.specs.Law.{ExprFacts, no_facts, facts_at, is_plain}
-use Rattle.expr_effect.proofs.Facts.{fact_none, fact_plain, fact_refers}
+use Rattle.expr_effect.proofs.Facts.{fact_none, fact_plain, part_refers}
 use Rattle.da.specs.declared.DaOut.{DaOut}
 use Rattle.da.specs.declared.DaOut.TheVariants.{Falls}
 use Rattle.da.specs.declared.DaGiveUp.{DaGiveUp}
@@ -26,7 +28,7 @@ use Rattle.da.specs.Outcome.{DaResult, State, is_written, gains, ◌▷◌}
 use Rattle.da.specs.Walk.{expr_out_writes, unless_one_read}
 use Rattle.da_rows.specs.declared.Context.{Context}
 use Rattle.da_rows.specs.declared.States.{States}
-use Rattle.da_rows.specs.Steps.{facts_in, fact_in, held_in, evaluation, give_up_at}
+use Rattle.da_rows.specs.Steps.{facts_in, facts_of, fact_of, held_in, held_of, evaluation, give_up_at}
 use Rattle.da_leaf.specs.Steps.{only_written_at, is_lident, target_at, assign_at, event_at, blocking_at, scheduled, nonblocking_at}
 use Rattle.da_rows.proofs.Asking.{unread_stops, unread_goes, states_are, unless_one_then}
 
@@ -43,40 +45,42 @@ plain_is x Ternary cs = refl
 plain_is x Paren cs = refl
 plain_is x Other cs = refl
 
-pub plain_none : (x : ℕ) (rows : List ℕ) (from to : ℕ) → to ≤ from → false ≡ (fact_in x rows from to).plain
-plain_none x rows from to h = rw (fact_none x rows from to h)
+pub plain_none : (x : ℕ) (rows : Siblings) → rows.to ≤ rows.from → false ≡ (fact_of x rows).plain
+plain_none x rows h = rw (fact_none x rows.table.now rows.from rows.to h)
 
-module _ (x : ℕ) (rows : List ℕ) (from to n : ℕ) (k : ExprClass) (b : Bool) (g : Nested rows from to) (h : from < to) (p : n ≡ kind_at rows from) (q : k ≡ expr_class n) (e : b ≡ is_lident k) where
-  plain_first : (fact_in x rows from to).plain ≡ b && is_local x (tree rows (from + 1) (end_at rows from))
-  plain_first = fact_plain x g h ∙ plain_is x (expr_class (kind_at rows from)) (tree rows (from + 1) (end_at rows from)) ∙ rw (← p, ← q, ← e)
+module _ (x : ℕ) (rows : Siblings) (row : Node) (n : ℕ) (k : ExprClass) (b : Bool) (f : First rows row) (p : n ≡ kind_at row.table.now row.at) (q : k ≡ expr_class n) (e : b ≡ is_lident k) where
+  plain_first : (fact_of x rows).plain ≡ b && is_local x (tree row.table.now (row.at + 1) row.end)
+  plain_first =
+      fact_plain x rows.nested f.some
+      ∙ plain_is x (expr_class (kind_at rows.table.now rows.from)) (tree rows.table.now (rows.from + 1) (end_at rows.table.now rows.from))
+      ∙ rw (e, q, p, f.same, f.starts, f.ends)
 
-  pub plain_other : b ≡ false → b ≡ (fact_in x rows from to).plain
+  pub plain_other : b ≡ false → b ≡ (fact_of x rows).plain
   plain_other t = t ∙ sym (plain_first ∙ rw t)
 
-  pub plain_local : (end : ℕ) (r : Bool) → b ≡ true → RowEnd rows from to end → r ≡ is_local x (tree rows (from + 1) end) → r ≡ (fact_in x rows from to).plain
-  plain_local end r t s v = v ∙ sym (plain_first ∙ rw (t, ← s.is))
+  pub plain_local : (below : Siblings) (r : Bool) → b ≡ true → Children row below → r ≡ is_local x (forest below) → r ≡ (fact_of x rows).plain
+  plain_local below r t c v = v ∙ sym (plain_first ∙ rw (t, ← c.same, ← c.starts, ← c.ends))
 
 -- da_target
 written_falls : (g : State) (stop : DaGiveUp) → cond (is_written g) (Ok (Falls g)) (Err stop) ≡ cond (is_written g) (Ok (Falls true)) (Err stop)
 written_falls true stop = refl
 written_falls false stop = refl
 
-module _ (x : ℕ) (rows : List ℕ) (i from to : ℕ) (after a : State) (p : Bool) (e : p ≡ (fact_in x rows from to).plain) where
-  pub target_plain : p ≡ true → Ok (Falls true) ≡ target_at x rows i from to after a
+module _ (x : ℕ) (row : Node) (target : Siblings) (after a : State) (p : Bool) (e : p ≡ (fact_of x target).plain) where
+  pub target_plain : p ≡ true → Ok (Falls true) ≡ target_at x row target after a
   target_plain h = rw (← e, h)
 
-  pub target_other : (n : ℕ) (clear g : Bool) (r : DaResult)
+  pub target_other : (alone : Siblings) (clear g : Bool) (r : DaResult)
       → p ≡ false
-      → Nested rows from to
-      → NextRow rows from to n
-      → clear ≡ lvalue_no_ref x (tree rows from n)
+      → Head target alone
+      → clear ≡ lvalue_no_ref x (forest alone)
       → g ≡ cond (not clear) a after
-      → r ≡ only_written_at rows i 4 g
-      → r ≡ target_at x rows i from to after a
-  target_other n clear g r h t s c v w =
+      → r ≡ only_written_at row.table.now row.at 4 g
+      → r ≡ target_at x row target after a
+  target_other alone clear g r h s c v w =
       w
-      ∙ sym (written_falls g (give_up_at rows i 4))
-      ∙ sym (rw (← e, h, fact_refers x t n s.is, ← not-not (refers Skipped x (tree rows from n)), ← c, ← v))
+      ∙ sym (written_falls g (give_up_at row.table.now row.at 4))
+      ∙ sym (rw (← e, h, part_refers x s, ← not-not (refers Skipped x (forest alone)), ← c, ← v))
 
 -- da_assign: the write of the right side counts where the target does not refer
 gains_unless : (r w : Bool) (a : State) → gains (not r && w) a ≡ cond r a (gains w a)
@@ -87,47 +91,47 @@ gains_unless false w a = refl
 after_is : (e : ExprFacts) (a : State) (q : Result States DaGiveUp) (states : States) → q ≡ evaluation e a → q ≡ Ok states → states.after ≡ gains (expr_out_writes e) a
 after_is e a q states v h = ap (λ (s : States). s.after) (states_are e a q v states h)
 
-module _ (x : ℕ) (rows : List ℕ) (i from to n : ℕ) (a : State) (q : Result States DaGiveUp) (g : Nested rows from to) (t : NextRow rows from to n) (v : q ≡ evaluation (fact_in x rows n to) a) where
-  right_is : fact_in x rows n to ≡ nth no_facts 1 (facts_in x rows from to)
-  right_is = fold_next (facts_at x) no_facts 0 g t.is
+module _ (x : ℕ) (row : Node) (target right : Siblings) (a : State) (q : Result States DaGiveUp) (t : Rest target right) (v : q ≡ evaluation (fact_of x right) a) where
+  right_is : fact_of x right ≡ nth no_facts 1 (facts_of x target)
+  right_is = fold_next_part (facts_at x) no_facts 0 t
 
-  pub assign_stops : (stop : DaGiveUp) → q ≡ Err stop → Err stop ≡ assign_at x rows i from to a
+  pub assign_stops : (stop : DaGiveUp) → q ≡ Err stop → Err stop ≡ assign_at x row target a
   assign_stops stop h = unread_stops _ a q (rw right_is at v) stop _ h
 
-  pub assign_goes : (states : States) (r : DaResult) → q ≡ Ok states → r ≡ target_at x rows i from to states.after a → r ≡ assign_at x rows i from to a
+  pub assign_goes : (states : States) (r : DaResult) → q ≡ Ok states → r ≡ target_at x row target states.after a → r ≡ assign_at x row target a
   assign_goes states r h e =
       e
-      ∙ rw (after_is (fact_in x rows n to) a q states v h, ← gains_unless, right_is)
+      ∙ rw (after_is (fact_of x right) a q states v h, ← gains_unless, right_is)
       (unread_goes _ a q (rw right_is at v) states _ h)
 
 -- da_event
-module _ (x : ℕ) (rows : List ℕ) (i from to n : ℕ) (a b : State) (g : Nested rows from to) (t : NextRow rows from to n) (e : b ≡ not a && refers Skipped x (tree rows from n)) where
-  event_asks : not (is_written a) && (fact_in x rows from to).refers ≡ b
-  event_asks = rw (fact_refers x g n t.is) (sym e)
+module _ (x : ℕ) (row : Node) (event alone : Siblings) (a b : State) (t : Head event alone) (e : b ≡ not a && refers Skipped x (forest alone)) where
+  event_asks : not (is_written a) && (fact_of x event).refers ≡ b
+  event_asks = rw (part_refers x t) (sym e)
 
-  pub event_stops : (stop : DaGiveUp) → b ≡ true → stop ≡ give_up_at rows i 3 → Err stop ≡ event_at x rows i from to a
+  pub event_stops : (stop : DaGiveUp) → b ≡ true → stop ≡ give_up_at row.table.now row.at 3 → Err stop ≡ event_at x row event a
   event_stops stop h s = rw (event_asks, h, s)
 
-  pub event_goes : (r : DaResult) → b ≡ false → r ≡ assign_at x rows i n to a → r ≡ event_at x rows i from to a
-  event_goes r h v = v ∙ rw (event_asks, h, fold_next (facts_at x) no_facts 0 g t.is, fold_next (facts_at x) no_facts 1 g t.is)
+  pub event_goes : (target : Siblings) (r : DaResult) → b ≡ false → Rest event target → r ≡ assign_at x row target a → r ≡ event_at x row event a
+  event_goes target r h u v = v ∙ rw (event_asks, h, fold_next_part (facts_at x) no_facts 0 u, fold_next_part (facts_at x) no_facts 1 u)
 
 -- da_blocking
-module _ (x : ℕ) (rows : List ℕ) (i end : ℕ) (a : State) (r : DaResult) (e : r ≡ unless_one_read (held_in x rows (i + 1) end) a (Ok (Falls a))) where
-  delay_then : (next : DaResult) → unless_one_read (held_in x rows (i + 1) end) a next ≡ r ▷ λ out. next
-  delay_then next = unless_one_then (held_in x rows (i + 1) end) a next ∙ rw (← e)
+module _ (x : ℕ) (row : Node) (below : Siblings) (a : State) (r : DaResult) (c : Children row below) (e : r ≡ unless_one_read (held_of x below) a (Ok (Falls a))) where
+  delay_then : (next : DaResult) → unless_one_read (held_in x row.table.now (row.at + 1) row.end) a next ≡ r ▷ λ out. next
+  delay_then next = unless_one_then (held_in x row.table.now (row.at + 1) row.end) a next ∙ rw (← c.same, ← c.starts, ← c.ends, ← e)
 
-  pub blocking_stops : (stop : DaGiveUp) → r ≡ Err stop → Err stop ≡ blocking_at x rows i end a
+  pub blocking_stops : (stop : DaGiveUp) → r ≡ Err stop → Err stop ≡ blocking_at x row.table.now row.at row.end a
   blocking_stops stop h = sym (delay_then _ ∙ rw h)
 
-  pub blocking_goes : (out : DaOut) (n : ℕ) (s : DaResult)
+  pub blocking_goes : (out : DaOut) (event : Siblings) (s : DaResult)
       → r ≡ Ok out
-      → RowAlone rows i end
-      → NextRow rows (i + 1) end n
-      → s ≡ event_at x rows i n end a
-      → s ≡ blocking_at x rows i end a
-  blocking_goes out n s h g t v =
+      → Rest below event
+      → s ≡ event_at x row event a
+      → s ≡ blocking_at x row.table.now row.at row.end a
+  blocking_goes out event s h t v =
+      let fs : facts_of x below ≡ facts_in x row.table.now (row.at + 1) row.end = rw (c.same, c.starts, c.ends) in
       v
-      ∙ rw (fold_next (facts_at x) no_facts 0 g.children t.is, fold_next (facts_at x) no_facts 1 g.children t.is, fold_next (facts_at x) no_facts 2 g.children t.is)
+      ∙ rw (fold_next_part (facts_at x) no_facts 0 t, fold_next_part (facts_at x) no_facts 1 t, fold_next_part (facts_at x) no_facts 2 t, fs)
       (sym (delay_then _ ∙ rw h))
 
 -- da_scheduled
@@ -139,21 +143,22 @@ module _ (e : ExprFacts) (a : State) (q : Result States DaGiveUp) (v : q ≡ eva
   scheduled_goes states h = rw (after_is e a q states v h) (unread_goes e a q v states _ h)
 
 -- da_nonblocking
-module _ (ctx : Context) (rows : List ℕ) (i end : ℕ) (a : State) where
-  pub shared_stops : (stop : DaGiveUp) → not ctx.sole ≡ true → stop ≡ give_up_at rows i 1 → Err stop ≡ nonblocking_at ctx rows i end a
+module _ (ctx : Context) (row : Node) (a : State) where
+  pub shared_stops : (stop : DaGiveUp) → not ctx.sole ≡ true → stop ≡ give_up_at row.table.now row.at 1 → Err stop ≡ nonblocking_at ctx row.table.now row.at row.end a
   shared_stops stop h e = rw (h, e)
 
-  pub sole_goes : (l m n : ℕ) (r : DaResult)
+  pub sole_goes : (below event target right : Siblings) (r : DaResult)
       → not ctx.sole ≡ false
-      → RowAlone rows i end
-      → NextRow rows (i + 1) end l
-      → NextRow rows l end m
-      → NextRow rows m end n
-      → r ≡ scheduled (fact_in ctx.local rows n end) a
-      → r ≡ nonblocking_at ctx rows i end a
-  sole_goes l m n r h g t s u v =
+      → Children row below
+      → Rest below event
+      → Rest event target
+      → Rest target right
+      → r ≡ scheduled (fact_of ctx.local right) a
+      → r ≡ nonblocking_at ctx row.table.now row.at row.end a
+  sole_goes below event target right r h c t s u v =
+      let fs : facts_of ctx.local below ≡ facts_in ctx.local row.table.now (row.at + 1) row.end = rw (c.same, c.starts, c.ends) in
       v
       ∙ rw
-      (h, fold_next (facts_at ctx.local) no_facts 0 s.others u.is, fold_next (facts_at ctx.local) no_facts 1 t.others s.is, fold_next (facts_at ctx.local) no_facts 2 g.children t.is)
+      (h, fold_next_part (facts_at ctx.local) no_facts 0 u, fold_next_part (facts_at ctx.local) no_facts 1 s, fold_next_part (facts_at ctx.local) no_facts 2 t, fs)
 
 pub ruleset targets = (rules, target_plain, target_other, assign_stops, assign_goes, event_stops, event_goes, blocking_stops, blocking_goes, scheduled_stops, scheduled_goes, shared_stops, sole_goes)

@@ -38,21 +38,21 @@ any_call Reads lo hi = refl
 any_call Unknown lo hi = refl
 
 -- they walk no statement, and da_stmt falls there
-module _ (ctx : Context) (rows names : List ℕ) (i end : ℕ) where
+module _ (ctx : Context) (rows : List ℕ) (i end : ℕ) where
   abbrev FallsWritten : StmtClass → Type 0
-  FallsWritten class = (construct_of class ≡ Leaf) × (leaf_at (untimed ctx names) rows class i end written ≡ Ok (Falls written))
+  FallsWritten class = (construct_of class ≡ Leaf) × (leaf_at (untimed ctx) rows class i end written ≡ Ok (Falls written))
 
   abbrev clear : Bool
-  clear = (stmt_at (untimed ctx names) rows i end).no_ref
+  clear = (stmt_at (untimed ctx) rows i end).no_ref
 
   pub stays_falls : (class : StmtClass) → stays_written class ≡ true → FallsWritten class
   stays_falls K.Blocking h = (refl, blocking)
     where
-      blocking : leaf_at (untimed ctx names) rows K.Blocking i end written ≡ Ok (Falls written)
+      blocking : leaf_at (untimed ctx) rows K.Blocking i end written ≡ Ok (Falls written)
       blocking =
           rw (no_read_matters (held_in ctx.local rows (i + 1) end), either_way {A = DaResult} (nth no_facts 2 (facts_in ctx.local rows (i + 1) end)).plain (Ok (Falls written)))
           (either_way clear (Ok (Falls written)))
-  stays_falls K.Task h = (refl, rw (any_call (call_effect (task_effect (stmt_at (untimed ctx names) rows i end).side))) (either_way clear (Ok (Falls written))))
+  stays_falls K.Task h = (refl, rw (any_call (call_effect (task_effect (stmt_at (untimed ctx) rows i end).side))) (either_way clear (Ok (Falls written))))
   stays_falls K.Decl h = (refl, refl)
   stays_falls K.Fork h = (refl, either_way clear (Ok (Falls written)))
   stays_falls K.Null h = (refl, either_way clear (Ok (Falls written)))
@@ -91,7 +91,7 @@ module _ (ctx : Context) (rows names : List ℕ) (i end : ℕ) where
   is_controlled Forever = false
 
   abbrev asked : StmtClass → DaResult
-  asked class = cond (is_controlled (construct_of class)) (referring_at (untimed ctx names) rows class i end written) (Ok (Falls written))
+  asked class = cond (is_controlled (construct_of class)) (referring_at (untimed ctx) rows class i end written) (Ok (Falls written))
 
   control_asked : (class : StmtClass) → asked class ≡ Ok (Falls written)
   control_asked K.Delayctrl = no_read_matters (held_in ctx.local rows (i + 1) end) (Ok (Falls written))
@@ -119,5 +119,5 @@ module _ (ctx : Context) (rows names : List ℕ) (i end : ℕ) where
   control_asked K.Absent = refl
   control_asked K.NoStmt = refl
 
-  pub control_falls : (class : StmtClass) → construct_of class ≡ Controlled → referring_at (untimed ctx names) rows class i end written ≡ Ok (Falls written)
+  pub control_falls : (class : StmtClass) → construct_of class ≡ Controlled → referring_at (untimed ctx) rows class i end written ≡ Ok (Falls written)
   control_falls class e = rw e at (control_asked class)

@@ -1,6 +1,8 @@
 -- What the code asks and answers on its way through the arms of da_stmt that walk no statement. The rules are those of da's Walk;
 -- here they are taken from rows of a table. Definitions only.
 use Rattle.std.specs.Prelude.{◌≡◌, Bool, true, false, cond, ◌&&◌, not, List, [], ℕ, ◌+◌, Ok, Err}
+use Rattle.table.specs.declared.Siblings.{Siblings}
+use Rattle.table.specs.declared.Node.{Node}
 use Rattle.table.specs.Rows.{kind_at, side_at, lo_at, hi_at, tree}
 use Rattle.table.specs.Steps.{RowAlone}
 use Rattle.table.specs.Fold.{nth}
@@ -18,7 +20,7 @@ use Rattle.da_rows.specs.declared.Context.{Context}
 use Rattle.da_leaf.specs.declared.Construct.{Construct}
 use Rattle.da_leaf.specs.declared.Construct.TheVariants.{StaysWritten, Leaf, Controlled, Arm, Block, If, Case, For, While, Repeat, Forever}
 use Rattle.sheet_record.specs.Records.{marks_of}
-use Rattle.da_rows.specs.Steps.{stmt_at, fact_in, facts_in, held_in, give_up_at}
+use Rattle.da_rows.specs.Steps.{stmt_at, fact_in, facts_in, fact_of, facts_of, held_in, give_up_at}
 
 -- `only_written` at row i
 abbrev pub only_written_at : List ℕ → ℕ → ℕ → State → DaResult
@@ -37,19 +39,18 @@ is_lident Ternary = false
 is_lident Paren = false
 is_lident Other = false
 
--- S::Blocking in row i from its target on, the first of the rows from `from` up to `to`, with the state after the right side and the
--- one before it
-abbrev pub target_at : ℕ → List ℕ → ℕ → ℕ → ℕ → State → State → DaResult
-target_at x rows i from to after a = assigned (fact_in x rows from to).plain (cond (fact_in x rows from to).refers a after) (lo_at rows i) (hi_at rows i)
+-- S::Blocking in this row from its target on, the first of these siblings, with the state after the right side and the one before it
+abbrev pub target_at : ℕ → Node → Siblings → State → State → DaResult
+target_at x row parts after a = assigned (fact_of x parts).plain (cond (fact_of x parts).refers a after) (lo_at row.table.now row.at) (hi_at row.table.now row.at)
 
--- from its right side on; target and right side are the first two of those rows
-abbrev pub assign_at : ℕ → List ℕ → ℕ → ℕ → ℕ → State → DaResult
-assign_at x rows i from to a = from_right (fact_in x rows from to) (nth no_facts 1 (facts_in x rows from to)) (lo_at rows i) (hi_at rows i) a
+-- from its right side on; target and right side are the first two of these
+abbrev pub assign_at : ℕ → Node → Siblings → State → DaResult
+assign_at x row parts a = from_right (fact_of x parts) (nth no_facts 1 (facts_of x parts)) (lo_at row.table.now row.at) (hi_at row.table.now row.at) a
 
 -- from its event on
-abbrev pub event_at : ℕ → List ℕ → ℕ → ℕ → ℕ → State → DaResult
-event_at x rows i from to a =
-    from_event (fact_in x rows from to) (nth no_facts 1 (facts_in x rows from to)) (nth no_facts 2 (facts_in x rows from to)) (lo_at rows i) (hi_at rows i) a
+abbrev pub event_at : ℕ → Node → Siblings → State → DaResult
+event_at x row parts a =
+    from_event (fact_of x parts) (nth no_facts 1 (facts_of x parts)) (nth no_facts 2 (facts_of x parts)) (lo_at row.table.now row.at) (hi_at row.table.now row.at) a
 
 -- S::Blocking in row i, which ends at `end`
 abbrev pub blocking_at : ℕ → List ℕ → ℕ → ℕ → State → DaResult

@@ -1,29 +1,29 @@
 // The arms of da_stmt that walk no statement, and what the other arms ask before they walk one: da/mod.rs, over rows.
 #![tactic(auto)]
 
-ghost use Rattle.std.specs.Prelude.{◌≡◌, cond, ◌&&◌, ◌+◌, ◌*◌, ◌<◌, length};
-ghost use Rattle.table.specs.Rows.{Nested, tree, kind_at};
-ghost use Rattle.table.specs.Steps.{RowAlone};
+ghost use Rattle.std.specs.Prelude.{◌≡◌, cond, ◌&&◌};
+ghost use Rattle.table.specs.Rows.{kind_at};
+ghost use Rattle.table.specs.Siblings.{forest};
 ghost use Rattle.kinds.specs.Named.{task_effect, stmt_class};
 ghost use Rattle.reads.specs.PathRows.{is_local, is_loop_jump};
 ghost use Rattle.da.specs.Walk.{call_effect};
 ghost use Rattle.sheet_record.specs.Records.{marks_of};
-ghost use Rattle.da_rows.specs.Steps.{untimed, fact_in};
+ghost use Rattle.da_rows.specs.Steps.{untimed, fact_of};
 ghost use Rattle.da_leaf.specs.Steps.{only_written_at, is_lident, target_at, assign_at, event_at, blocking_at, scheduled, nonblocking_at, return_at, task_at, disable_at, event_control_at, construct_of, stays_written, construct_from, LeafRow, referring_at, leaf_at};
 
 use da::{CallEffect, DaOut, DaResult};
 use da_rows::Context;
 use kinds::{ExprClass, StmtClass};
+use table::{Node, Siblings};
 
 // A statement that is accepted only where the local is written.
-fn only_written(rows: &[u32], i: usize, reason: u32, assigned: bool) -> DaResult
-    requires { 5 * i + 4 < length rows.now }
-    ensures { result ≡ only_written_at rows.now i reason assigned }
+fn only_written(row: Node, reason: u32, assigned: bool) -> DaResult
+    ensures { result ≡ only_written_at row.entry.table.now row.entry.at reason assigned }
 {
     if assigned {
         return Ok(DaOut::Falls(true));
     }
-    Err(da_rows::give_up(rows, i, reason))
+    Err(da_rows::give_up(row, reason))
 }
 
 fn is_lident(class: ExprClass) -> bool
@@ -32,23 +32,22 @@ fn is_lident(class: ExprClass) -> bool
     matches!(class, ExprClass::Lident)
 }
 
-// Whether the first of the rows from `from` up to `to` is a path of one segment, the local.
+// Whether the first of these rows is a path of one segment, the local.
 #[tactic(auto, unfolding(reads::specs::PathRows::is_local))]
-fn is_local(rows: &[u32], local: usize, from: usize, to: usize) -> bool
-    requires { Nested rows.now from to }
-    ensures { result ≡ is_local local (tree rows.now from to) }
+fn is_local(rows: Siblings, local: usize) -> bool
+    ensures { result ≡ is_local local (forest rows.entry) }
 {
-    reads::segments(rows, from, to) == 1 && reads::begins_with(rows, local, from, to)
+    reads::segments(rows) == 1 && reads::begins_with(rows, local)
 }
 
-// Whether the first of the rows from `from` up to `to` is the plain local as a target.
-fn is_plain(rows: &[u32], local: usize, from: usize, to: usize) -> bool
-    requires { Nested rows.now from to }
-    ensures { result ≡ (fact_in local rows.now from to).plain }
+// Whether the first of these rows is the plain local as a target.
+fn is_plain(rows: Siblings, local: usize) -> bool
+    ensures { result ≡ (fact_of local rows.entry).plain }
 {
-    from < to
-        && is_lident(kinds::expr_class(table::kind_at(rows, from)))
-        && is_local(rows, local, from + 1, table::row_end(rows, from, to))
+    match rows.first() {
+        Some(row) => is_lident(kinds::expr_class(row.kind())) && is_local(row.children(), local),
+        None => false,
+    }
 }
 
 // The state once the right side is evaluated: its write counts where the target does not refer to the local.
@@ -58,101 +57,68 @@ fn gained(refers: bool, after: bool, assigned: bool) -> bool
     if refers { assigned } else { after }
 }
 
-// The end of a blocking assignment in row i: its target, the first of the rows from `from` up to `to`.
-fn da_target(
-    rows: &[u32],
-    local: usize,
-    i: usize,
-    from: usize,
-    to: usize,
-    after: bool,
-    assigned: bool,
-) -> DaResult
-    requires { (Nested rows.now from to) × (5 * i + 4 < length rows.now) }
-    ensures { result ≡ target_at local rows.now i from to after assigned }
+// The end of a blocking assignment in a row: its target, the first of these.
+fn da_target(row: Node, target: Siblings, local: usize, after: bool, assigned: bool) -> DaResult
+    ensures { result ≡ target_at local row.entry target.entry after assigned }
 {
-    if is_plain(rows, local, from, to) {
+    if is_plain(target, local) {
         return Ok(DaOut::Falls(true)); // whatever it was before
     }
-    let end = table::next_at(rows, from, to);
-    let clear = reads::no_ref(rows, local, from, end);
-    only_written(rows, i, 4, gained(!clear, after, assigned))
+    let clear = reads::no_ref(target.head(), local);
+    only_written(row, 4, gained(!clear, after, assigned))
 }
 
-// A blocking assignment in row i from its right side on; the rows from `from` up to `to` are its target and right side.
-fn da_assign(
-    rows: &[u32],
-    local: usize,
-    i: usize,
-    from: usize,
-    to: usize,
-    assigned: bool,
-) -> DaResult
-    requires { (Nested rows.now from to) × (5 * i + 4 < length rows.now) }
-    ensures { result ≡ assign_at local rows.now i from to assigned }
+// A blocking assignment in a row from its right side on; these are its target and right side.
+fn da_assign(row: Node, target: Siblings, local: usize, assigned: bool) -> DaResult
+    ensures { result ≡ assign_at local row.entry target.entry assigned }
 {
-    let right = table::next_at(rows, from, to);
-    let states = da_rows::evaluate(rows, local, right, to, assigned)?;
-    da_target(rows, local, i, from, to, states.after, assigned)
+    let states = da_rows::evaluate(target.rest(), local, assigned)?;
+    da_target(row, target, local, states.after, assigned)
 }
 
-// A blocking assignment in row i from its event on; the rows from `from` up to `to` are its event, target and right side.
-fn da_event(
-    rows: &[u32],
-    local: usize,
-    i: usize,
-    from: usize,
-    to: usize,
-    assigned: bool,
-) -> DaResult
-    requires { (Nested rows.now from to) × (5 * i + 4 < length rows.now) }
-    ensures { result ≡ event_at local rows.now i from to assigned }
+// A blocking assignment in a row from its event on; these are its event, target and right side.
+fn da_event(row: Node, event: Siblings, local: usize, assigned: bool) -> DaResult
+    ensures { result ≡ event_at local row.entry event.entry assigned }
 {
-    let target = table::next_at(rows, from, to);
-    if da_rows::refers_unwritten(rows, local, from, target, assigned) {
-        return Err(da_rows::give_up(rows, i, 3));
+    if da_rows::refers_unwritten(event.head(), local, assigned) {
+        return Err(da_rows::give_up(row, 3));
     }
-    da_assign(rows, local, i, target, to, assigned)
+    da_assign(row, event.rest(), local, assigned)
 }
 
 // A blocking assignment: delay, event, right side, target.
-fn da_blocking(rows: &[u32], local: usize, i: usize, end: usize, assigned: bool) -> DaResult
-    requires { RowAlone rows.now i end }
-    ensures { result ≡ blocking_at local rows.now i end assigned }
+fn da_blocking(row: Node, local: usize, assigned: bool) -> DaResult
+    ensures { result ≡ blocking_at local row.entry.table.now row.entry.at row.entry.end assigned }
 {
-    da_rows::unless_delay_read(rows, local, i + 1, end, assigned)?;
-    let event = table::next_at(rows, i + 1, end);
-    da_event(rows, local, i, event, end, assigned)
+    let delay = row.children();
+    da_rows::unless_delay_read(delay, local, assigned)?;
+    da_event(row, delay.rest(), local, assigned)
 }
 
-// The right side of a nonblocking assignment, the first of the rows from `from` up to `to`.
-fn da_scheduled(rows: &[u32], local: usize, from: usize, to: usize, assigned: bool) -> DaResult
-    requires { Nested rows.now from to }
-    ensures { result ≡ scheduled (fact_in local rows.now from to) assigned }
+// The right side of a nonblocking assignment, the first of these rows.
+fn da_scheduled(right: Siblings, local: usize, assigned: bool) -> DaResult
+    ensures { result ≡ scheduled (fact_of local right.entry) assigned }
 {
-    let states = da_rows::evaluate(rows, local, from, to, assigned)?;
+    let states = da_rows::evaluate(right, local, assigned)?;
     Ok(DaOut::Falls(states.after))
 }
 
 // A nonblocking assignment: on a net that other blocks write it gives up; else its right side counts.
-fn da_nonblocking(rows: &[u32], ctx: Context, i: usize, end: usize, assigned: bool) -> DaResult
-    requires { RowAlone rows.now i end }
-    ensures { result ≡ nonblocking_at ctx rows.now i end assigned }
+fn da_nonblocking(ctx: &Context, row: Node, assigned: bool) -> DaResult
+    ensures { result ≡ nonblocking_at ctx.now row.entry.table.now row.entry.at row.entry.end assigned }
 {
     if !ctx.sole {
-        return Err(da_rows::give_up(rows, i, 1));
+        return Err(da_rows::give_up(row, 1));
     }
-    let event = table::next_at(rows, i + 1, end);
-    let target = table::next_at(rows, event, end);
-    let right = table::next_at(rows, target, end);
-    da_scheduled(rows, ctx.local, right, end, assigned)
+    let event = row.children().rest();
+    let target = event.rest();
+    da_scheduled(target.rest(), ctx.local, assigned)
 }
 
-fn da_return(rows: &[u32], local: usize, i: usize, end: usize, assigned: bool) -> DaResult
-    requires { RowAlone rows.now i end }
-    ensures { result ≡ return_at local rows.now i end assigned }
+fn da_return(row: Node, local: usize, assigned: bool) -> DaResult
+    ensures { result ≡ return_at local row.entry.table.now row.entry.at row.entry.end assigned }
 {
-    da_rows::unless_read(rows, local, i + 1, end, assigned)?;
+    da_rows::unless_read(row.children(), local, assigned)?;
     Ok(DaOut::Jumps)
 }
 
@@ -169,15 +135,14 @@ fn call_effect(side: usize) -> CallEffect
     }
 }
 
-fn da_task(rows: &[u32], i: usize, assigned: bool) -> DaResult
-    requires { 5 * i + 4 < length rows.now }
-    ensures { result ≡ task_at rows.now i assigned }
+fn da_task(row: Node, assigned: bool) -> DaResult
+    ensures { result ≡ task_at row.entry.table.now row.entry.at assigned }
 {
-    match call_effect(table::side_at(rows, i)) {
+    match call_effect(row.side()) {
         CallEffect::Inert => Ok(DaOut::Falls(assigned)),
         CallEffect::Writes => Ok(DaOut::Falls(true)),
-        CallEffect::Reads => only_written(rows, i, 6, assigned),
-        CallEffect::Unknown => only_written(rows, i, 7, assigned),
+        CallEffect::Reads => only_written(row, 6, assigned),
+        CallEffect::Unknown => only_written(row, 7, assigned),
     }
 }
 
@@ -188,32 +153,35 @@ fn is_marked(names: &[u32], number: usize) -> bool
     number < names.len() / 3 && sheet_record::mark_at(names, number) == 1
 }
 
-// Whether the first of the rows from `from` up to `to` is a path of one segment that is marked.
-fn is_loop_jump(rows: &[u32], names: &[u32], from: usize, to: usize) -> bool
-    requires { Nested rows.now from to }
-    ensures { result ≡ is_loop_jump (marks_of names.now) (tree rows.now from to) }
+// Whether the first of these rows is a path of one segment that is marked.
+fn is_loop_jump(rows: Siblings, names: &[u32]) -> bool
+    ensures { result ≡ is_loop_jump (marks_of names.now) (forest rows.entry) }
 {
-    reads::segments(rows, from, to) == 1 && is_marked(names, table::side_at(rows, from + 1))
+    let Some(path) = rows.first() else {
+        return false;
+    };
+    let segments = path.children();
+    match segments.first() {
+        Some(segment) => segments.rest().is_empty() && is_marked(names, segment.side()),
+        None => false,
+    }
 }
 
-fn da_disable(rows: &[u32], names: &[u32], i: usize, end: usize, assigned: bool) -> DaResult
-    requires { RowAlone rows.now i end }
-    ensures { result ≡ disable_at rows.now names.now i end assigned }
+fn da_disable(row: Node, names: &[u32], assigned: bool) -> DaResult
+    ensures { result ≡ disable_at row.entry.table.now names.now row.entry.at row.entry.end assigned }
 {
-    if is_loop_jump(rows, names, i + 1, end) {
+    if is_loop_jump(row.children(), names) {
         return Ok(DaOut::Jumps);
     }
     Ok(DaOut::Falls(assigned))
 }
 
 // What an event control asks before its body.
-fn da_eventctrl(rows: &[u32], local: usize, i: usize, end: usize, assigned: bool) -> DaResult
-    requires { RowAlone rows.now i end }
-    ensures { result ≡ event_control_at local rows.now i end assigned }
+fn da_eventctrl(row: Node, local: usize, assigned: bool) -> DaResult
+    ensures { result ≡ event_control_at local row.entry.table.now row.entry.at row.entry.end assigned }
 {
-    let body = table::next_at(rows, i + 1, end);
-    if da_rows::refers_unwritten(rows, local, i + 1, body, assigned) {
-        return Err(da_rows::give_up(rows, i, 8));
+    if da_rows::refers_unwritten(row.children().head(), local, assigned) {
+        return Err(da_rows::give_up(row, 8));
     }
     Ok(DaOut::Falls(assigned))
 }
@@ -270,12 +238,11 @@ fn class_stays_written(class: StmtClass, assigned: bool) -> bool
         )
 }
 
-// The same of row i.
-pub fn stays_written(rows: &[u32], i: usize, assigned: bool) -> bool
-    requires { 5 * i + 4 < length rows.now }
-    ensures { result ≡ assigned && stays_written (stmt_class (kind_at rows.now i)) }
+// The same of a row.
+pub fn stays_written(row: Node, assigned: bool) -> bool
+    ensures { result ≡ assigned && stays_written (stmt_class (kind_at row.entry.table.now row.entry.at)) }
 {
-    class_stays_written(kinds::stmt_class(table::kind_at(rows, i)), assigned)
+    class_stays_written(kinds::stmt_class(row.kind()), assigned)
 }
 
 // How da_stmt goes on at a statement of this class, from this state.
@@ -288,53 +255,39 @@ pub fn construct_from(class: StmtClass, assigned: bool) -> Construct
     construct_of(class)
 }
 
-// Row i, of a class that walks no statement or one only after what is asked here, as it goes on where stmt_no_ref does not let it through.
-pub fn da_referring(
-    rows: &[u32],
-    names: &[u32],
-    ctx: Context,
-    class: StmtClass,
-    i: usize,
-    end: usize,
-    assigned: bool,
-) -> DaResult
-    requires { LeafRow rows.now class i end }
-    ensures { result ≡ referring_at (untimed ctx names.now) rows.now class i end assigned }
+// A row of a class that walks no statement or one only after what is asked here, as it goes on where stmt_no_ref does not let it through.
+pub fn da_referring(ctx: &Context, row: Node, class: StmtClass, assigned: bool) -> DaResult
+    requires { LeafRow row.table.now class row.at row.end }
+    ensures { result ≡ referring_at (untimed ctx.now) row.entry.table.now class row.entry.at row.entry.end assigned }
 {
     match class {
-        StmtClass::Blocking => da_blocking(rows, ctx.local, i, end, assigned),
-        StmtClass::Nonblocking => da_nonblocking(rows, ctx, i, end, assigned),
-        StmtClass::Return => da_return(rows, ctx.local, i, end, assigned),
-        StmtClass::Task => da_task(rows, i, assigned),
-        StmtClass::Disable => da_disable(rows, names, i, end, assigned),
-        StmtClass::Decl | StmtClass::Wait => {
-            da_rows::unless_read(rows, ctx.local, i + 1, end, assigned)
-        }
-        StmtClass::Delayctrl => da_rows::unless_held_read(rows, ctx.local, i + 1, end, assigned),
-        StmtClass::Eventctrl => da_eventctrl(rows, ctx.local, i, end, assigned),
-        StmtClass::Fork => only_written(rows, i, 5, assigned),
+        StmtClass::Blocking => da_blocking(row, ctx.local, assigned),
+        StmtClass::Nonblocking => da_nonblocking(ctx, row, assigned),
+        StmtClass::Return => da_return(row, ctx.local, assigned),
+        StmtClass::Task => da_task(row, assigned),
+        StmtClass::Disable => da_disable(row, ctx.names, assigned),
+        StmtClass::Decl | StmtClass::Wait => da_rows::unless_read(
+            row.children(),
+            ctx.local,
+            assigned,
+        ),
+        StmtClass::Delayctrl => da_rows::unless_held_read(row.children(), ctx.local, assigned),
+        StmtClass::Eventctrl => da_eventctrl(row, ctx.local, assigned),
+        StmtClass::Fork => only_written(row, 5, assigned),
         StmtClass::Systask | StmtClass::Unmodelled | StmtClass::Null => {
-            only_written(rows, i, 9, assigned)
+            only_written(row, 9, assigned)
         }
         _ => Ok(DaOut::Falls(assigned)),
     }
 }
 
-// Row i, of a class that walks no statement. Most are let through by stmt_no_ref, and are answered without a further call.
-pub fn da_leaf(
-    rows: &[u32],
-    names: &[u32],
-    ctx: Context,
-    class: StmtClass,
-    i: usize,
-    end: usize,
-    assigned: bool,
-) -> DaResult
-    requires { LeafRow rows.now class i end }
-    ensures { result ≡ leaf_at (untimed ctx names.now) rows.now class i end assigned }
+// A row of a class that walks no statement. Most are let through by stmt_no_ref, and are answered without a further call.
+pub fn da_leaf(ctx: &Context, row: Node, class: StmtClass, assigned: bool) -> DaResult
+    requires { LeafRow row.table.now class row.at row.end }
+    ensures { result ≡ leaf_at (untimed ctx.now) row.entry.table.now class row.entry.at row.entry.end assigned }
 {
-    if reads::stmt_no_ref(rows, ctx.local, i, end) {
+    if reads::stmt_no_ref(row.alone(), ctx.local) {
         return Ok(DaOut::Falls(assigned));
     }
-    da_referring(rows, names, ctx, class, i, end, assigned)
+    da_referring(ctx, row, class, assigned)
 }

@@ -20,9 +20,9 @@ use Rattle.da_rows.specs.declared.States.{States}
 use Rattle.da_rows.specs.declared.Part.{Part}
 use Rattle.da_rows.specs.declared.Part.TheVariants.{Match, Default, Absent, Statement}
 
--- DaCtx over a name table; whether time can advance has been asked before, of the statement that holds all others
-abbrev pub untimed : Context → List ℕ → DaCtx
-untimed ctx names = record { local = ctx.local; marks = marks_of names; sole = ctx.sole; timed = false }
+-- DaCtx from what a walk is given; whether time can advance has been asked before, of the statement that holds all others
+abbrev pub untimed : Context → DaCtx
+untimed ctx = record { local = ctx.local; marks = marks_of ctx.names.now; sole = ctx.sole; timed = false }
 
 -- row i, which ends at `end`, as da_stmt sees it
 abbrev pub stmt_at : DaCtx → List ℕ → ℕ → ℕ → StmtRow

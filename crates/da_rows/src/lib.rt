@@ -17,9 +17,10 @@ use effect_rules::ExprDa;
 use kinds::StmtClass;
 use table::{Node, Siblings};
 
-// What a walk is given beside the tables: the local, and whether this block is the only writer of the net.
+// What a walk is given beside the rows: the name table, the local, and whether this block is the only writer of the net.
 #[derive(Clone, Copy)]
-pub struct Context {
+pub struct Context<'a> {
+    pub names: &'a [u32],
     pub local: usize,
     pub sole: bool,
 }

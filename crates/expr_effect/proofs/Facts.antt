@@ -6,6 +6,8 @@ use mathlib.Core.Bool.{Bool, true, false}
 use mathlib.Core.List.{List}
 use lib.Dec.{ltb}
 use borrow.Author.Tests.{ltb-true, ltb-false}
+use Rattle.table.specs.declared.Siblings.{Siblings}
+use Rattle.table.specs.Siblings.{forest, Head}
 use Rattle.table.specs.Rows.{kind_at, lo_at, hi_at, end_at, nil, tree, Nested}
 use Rattle.table.specs.Steps.{next_of}
 use Rattle.table.specs.Fold.{fold, nth}
@@ -52,3 +54,7 @@ module _ (x : ℕ) {rows : List ℕ} {from to : ℕ} (g : Nested rows from to) w
           let v : n ≡ to = e ∙ rw q in
           let h : to ≤ from = ltb-false from to q in
           rw (v, fact_none x rows from to h, tree_none rows from to h, nothing_refers x)
+
+-- of a part of a table
+pub part_refers : (x : ℕ) {rows head : Siblings} → Head rows head → (nth no_facts 0 (expr_facts x (forest rows))).refers ≡ refers Skipped x (forest head)
+part_refers x {rows} {head} h = rw (h.same, h.starts) (fact_refers x rows.nested head.to h.ends)

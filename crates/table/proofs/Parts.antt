@@ -1,9 +1,9 @@
 -- The laws of a table's parts: what a part spells, from how it stands to another.
-use mathlib.Core.Path.{◌≡◌, refl, sym, ◌∙◌}
+use mathlib.Core.Path.{◌≡◌, refl, sym, ap, ◌∙◌}
 use Prim.Native.Nat.{ℕ, suc, ◌+◌, ◌≤◌, ◌<◌}
 use Rattle.table.specs.declared.Siblings.{Siblings}
 use Rattle.table.specs.declared.Node.{Node}
-use Rattle.table.specs.Rows.{kind_at, side_at, lo_at, hi_at, end_at, nil, node, tree, Nested, rest}
+use Rattle.table.specs.Rows.{kind_at, side_at, lo_at, hi_at, end_at, Forest, nil, node, tree, Nested, rest}
 use Rattle.table.specs.Steps.{next_of}
 use Rattle.table.specs.Siblings.{forest, First, Children, Rest, Head}
 use Rattle.table.specs.Fold.{Alg, fold, nth, tail}
@@ -14,6 +14,14 @@ use lib.Dec.{leb}
 use borrow.Author.Tests.{lt-ltb, leb-true, leb-false, not-true, not-false}
 use Rattle.table.proofs.Ranges.{ends_after}
 use Rattle.table.proofs.Tree.{tree_none, tree_some, tree_next}
+
+-- siblings are none, or there is a first
+abbrev firsts : Forest → ℕ
+firsts nil = 0
+firsts (node k s lo hi cs others) = 1
+
+pub nil_node : {k s lo hi : ℕ} {cs others : Forest} {A : Type 0} → nil ≡ node k s lo hi cs others → A
+nil_node e = let z : ◌≡◌ {A = ℕ} 0 1 = ap firsts e in absurd (omega arith)
 
 -- no rows
 pub forest_none : (rows : Siblings) → rows.to ≤ rows.from → forest rows ≡ nil

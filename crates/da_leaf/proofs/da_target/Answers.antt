@@ -3,3 +3,6 @@ use Rattle.da_leaf.proofs.da_target.Goals as goal
 
 pub returns : goal.returns
 returns c = search targets
+
+pub returns-then-is_plain : goal.returns-then-is_plain
+returns-then-is_plain c = search targets

@@ -1,11 +1,14 @@
-use Rattle.da_leaf.proofs.Leaves.{leaves}
+use Rattle.da_leaf.proofs.Leaves.{jumps}
 use Rattle.da_leaf.proofs.is_loop_jump.Goals as goal
 
-pub side_at-requires : goal.side_at-requires
-side_at-requires c = search leaves
+pub returns-in_default : goal.returns-in_default
+returns-in_default c = search (jumps, c.in_default.ensures.none)
 
-pub returns-then-segments-eq1 : goal.returns-then-segments-eq1
-returns-then-segments-eq1 c = search leaves
+pub returns-then-is_empty : goal.returns-then-is_empty
+returns-then-is_empty c = search (jumps, c.in-Some.ensures.some, c.in-Some-first.ensures.some)
 
-pub returns-else-segments-eq1 : goal.returns-else-segments-eq1
-returns-else-segments-eq1 c = search leaves
+pub returns-else-is_empty : goal.returns-else-is_empty
+returns-else-is_empty c = search (jumps, c.in-Some.ensures.some, c.in-Some-first.ensures.some)
+
+pub returns-in-None : goal.returns-in-None
+returns-in-None c = search (jumps, c.in-Some.ensures.some, c.in-None.ensures.none)
