@@ -12,9 +12,10 @@ use lib.Seq.{length-sets}
 use borrow.Author.Tests.{le-leb, lt-leb}
 use Rattle.writing.specs.Putting.{put}
 use Rattle.writing.proofs.Puts.{front_put}
+use Rattle.std.specs.Prelude.{Ok, Err}
 use Rattle.refusals.specs.declared.Refusal.{Refusal}
+use Rattle.refusals.specs.declared.Refused.{Refused}
 use Rattle.sheet.specs.Sections.{Line, right_line, wrong_line, Lines, read, refused, prepend, lines_from}
-use Rattle.sheet.specs.declared.sections.Section.TheVariants as S
 use Rattle.sheet.specs.Steps.{section_of, Filled, put_whole}
 
 -- numbers put into a table, if it has room
@@ -49,13 +50,13 @@ pub never : {A : Type 0} {refusal : Refusal} {line : ℕ} {numbers : List ℕ} {
 never e = absurd (let z : ◌≡◌ {A = ℕ} 0 1 = cc in omega arith)
 
 -- lines that a section was told of
-pub section_read : (l : Lines) (next : ℕ) → S.Read next ≡ section_of l → (numbers : List ℕ) × (l ≡ read numbers next)
+pub section_read : (l : Lines) (next : ℕ) → Ok next ≡ section_of l → (numbers : List ℕ) × (l ≡ read numbers next)
 section_read (read numbers n) next e = let z : n ≡ next = cc in (numbers, ap (read numbers) z)
 section_read (refused refusal line) next e = absurd (let z : ◌≡◌ {A = ℕ} 0 1 = cc in omega arith)
 
-pub section_refused : (l : Lines) (refusal : Refusal) (line : ℕ) → S.Refused refusal line ≡ section_of l → l ≡ refused refusal line
-section_refused (read numbers n) refusal line e = absurd (let z : ◌≡◌ {A = ℕ} 0 1 = cc in omega arith)
-section_refused (refused f m) refusal line e = cc
+pub section_refused : (l : Lines) (x : Refused) → Err x ≡ section_of l → l ≡ refused x.refusal x.place
+section_refused (read numbers n) x e = absurd (let z : ◌≡◌ {A = ℕ} 0 1 = cc in omega arith)
+section_refused (refused f m) x e = let z : x ≡ record { refusal = f; place = m } = cc in rw z
 
 -- the first of some lines is wrong, or right
 lines_wrong : {A : Type 0} (step : A → ℕ → Line A) (n : ℕ) (by : A) (at line : ℕ) (refusal : Refusal) → 0 < n → step by at ≡ wrong_line refusal → lines_from step n by at line ≡ refused refusal line

@@ -6,13 +6,14 @@ use mathlib.Core.List.{List, []}
 use native.Mathlib.Nat.{add-sub_cancel_left}
 use native.Mathlib.Omega.{arith}
 use lib.ListN.{length, take, drop, set}
+use Rattle.std.specs.Prelude.{Ok}
+use Rattle.refusals.specs.Refusals.{refused_at}
 use Rattle.refusals.specs.declared.Refusal.{Refusal}
 use Rattle.lines.specs.declared.Name.{Name}
 use Rattle.lines.specs.declared.NameLine.{NameLine}
 use Rattle.lines.specs.declared.NameLine.TheVariants as M
 use Rattle.lines.specs.Lines.{name_line}
 use Rattle.lines.proofs.Told.{name_told, name_within}
-use Rattle.sheet.specs.declared.sections.Section.TheVariants.{Read, Refused}
 use Rattle.sheet.specs.Sections.{wrong_line, name_step, name_numbers, name_text, names_from}
 use Rattle.sheet.specs.Steps.{section_of, Filled, put_whole, Short}
 use Rattle.sheet.proofs.Going.{put_none, put_all, put_length, Going, going_start, going_done, going_filled, going_wrong, wrong_filled, going_next}
@@ -40,7 +41,7 @@ pub name_loop_start : (s : List ℕ) (from count : ℕ) (t : List ℕ) → NameL
 name_loop_start s from count t = record { going = going_start (name_step s) [] 3 count from 3 t; kept = refl; ordered = omega arith; within = omega arith; place = omega arith; counted = refl }
 
 module _ (s : List ℕ) (from count : ℕ) (t₀ t : List ℕ) (at left line w before end : ℕ) (g : NameLoop s from count t₀ t at left line w before end) where
-  pub name_loop_done : left ≤ 0 → Read at ≡ section_of (names_from count s from)
+  pub name_loop_done : left ≤ 0 → Ok at ≡ section_of (names_from count s from)
   name_loop_done h = sym (ap section_of (going_done (name_step s) [] 3 count from 3 t _ at left line w g.going h))
 
   pub name_loop_filled : left ≤ 0 → Filled 3 count (names_from count s from) t
@@ -51,7 +52,7 @@ module _ (s : List ℕ) (from count : ℕ) (t₀ t : List ℕ) (at left line w b
     unfolding name_step
     step_wrong refusal e = rw (← q, e)
 
-    pub name_loop_wrong : (refusal : Refusal) → r ≡ M.Wrong refusal → Refused refusal line ≡ section_of (names_from count s from)
+    pub name_loop_wrong : (refusal : Refusal) → r ≡ M.Wrong refusal → refused_at refusal line ≡ section_of (names_from count s from)
     name_loop_wrong refusal e = sym (ap section_of (going_wrong (name_step s) [] 3 count from 3 t _ at left line w g.going more refusal (step_wrong refusal e)))
 
     pub name_loop_wrong_filled : (refusal : Refusal) → r ≡ M.Wrong refusal → Filled 3 count (names_from count s from) t

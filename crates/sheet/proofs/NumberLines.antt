@@ -9,6 +9,9 @@ use native.Mathlib.Omega.{arith}
 use lib.ListN.{length, take, drop, get_or, set, length-set}
 use lib.Seq.{take-append_seam, take-length}
 use borrow.Author.Tests.{not-true, not-false}
+use Rattle.std.specs.Prelude.{Result, Ok, Err}
+use Rattle.refusals.specs.declared.Refused.{Refused}
+use Rattle.refusals.specs.Refusals.{refused_at}
 use Rattle.refusals.specs.declared.Refusal.{Refusal}
 use Rattle.lines.specs.declared.NumberLine.{NumberLine}
 use Rattle.lines.specs.declared.NumberLine.TheVariants as N
@@ -16,10 +19,6 @@ use Rattle.lines.specs.Lines.{number_line}
 use Rattle.lines.proofs.InRange.{Ranged, value_ranged}
 use Rattle.sheet_record.specs.declared.Record.{Record}
 use Rattle.sheet.specs.declared.header.KeyLine.{KeyLine}
-use Rattle.sheet.specs.declared.header.Head.TheVariants as H
-use Rattle.sheet.specs.declared.header.Facts.TheVariants as F
-use Rattle.sheet.specs.declared.sections.Section.{Section}
-use Rattle.sheet.specs.declared.sections.Section.TheVariants as S
 use Rattle.sheet.specs.Header.{Greatest, at_most, below_the_names, greatest, HeaderLine, head_lines, fact_lines, record_by, first_fact}
 use Rattle.sheet.specs.Sections.{Lines, read, refused, wrong_line, prepend, after_line, lines_from, of_number, number_step, head_from, facts_from}
 use Rattle.sheet.specs.Steps.{given_greatest, is_below_names, key_line, KeyHeld, greatest_by, KeyRead, header_from, section_of, Filled, head_of, facts_of}
@@ -95,7 +94,7 @@ module _ (s : List ℕ) (from first names line : ℕ) (header : List KeyLine) (t
   abbrev all : Lines
   all = lines_from (number_step names s) (length t₀) (header_from first) from line
 
-  pub number_loop_done : length t ≤ i → S.Read at ≡ section_of all
+  pub number_loop_done : length t ≤ i → Ok at ≡ section_of all
   number_loop_done h = sym (ap section_of (going_done (number_step names s) (header_from first) 1 (length t₀) from line t _ at _ _ i g.going (omega (arith, g.kept))))
 
   pub number_loop_filled : length t ≤ i → Filled 1 (length t₀) all t
@@ -116,7 +115,7 @@ module _ (s : List ℕ) (from first names line : ℕ) (header : List KeyLine) (t
       unfolding number_step
       step_wrong refusal e = rw ((here d).rest, ← told, e)
 
-      pub number_loop_wrong : (refusal : Refusal) → r ≡ N.Wrong refusal → S.Refused refusal (line + i) ≡ section_of all
+      pub number_loop_wrong : (refusal : Refusal) → r ≡ N.Wrong refusal → refused_at refusal (line + i) ≡ section_of all
       number_loop_wrong refusal e = sym (ap section_of (going_wrong (number_step names s) (header_from first) 1 (length t₀) from line t _ at _ _ i g.going (omega (arith, g.kept)) refusal (step_wrong refusal e)))
 
       pub number_loop_wrong_filled : (refusal : Refusal) → r ≡ N.Wrong refusal → Filled 1 (length t₀) all t
@@ -222,11 +221,11 @@ head_here s = lines_from (number_step 0 s) 2 (header_from 0) 0 1
 head_here_lem : (s : List ℕ) → head_here s ≡ head_from s
 head_here_lem s = numbers_front 0 s head_lines fact_lines 0 1
 
-module _ (s : List ℕ) (r : Section) (e : r ≡ section_of (head_here s)) where
-  pub head_refused : (refusal : Refusal) (line : ℕ) → r ≡ S.Refused refusal line → H.Refused refusal line ≡ head_of (head_from s)
-  head_refused refusal line q = rw (← head_here_lem s, section_refused (head_here s) refusal line (sym q ∙ e))
+module _ (s : List ℕ) (r : Result ℕ Refused) (e : r ≡ section_of (head_here s)) where
+  pub head_refused : (x : Refused) → r ≡ Err x → Err x ≡ head_of (head_from s)
+  head_refused x q = rw (← head_here_lem s, section_refused (head_here s) x (sym q ∙ e))
 
-  pub head_read : (head : List ℕ) → Filled 1 2 (head_here s) head → length head ≡ 2 → (next : ℕ) → r ≡ S.Read next → H.Read (get_or head 1 0) next ≡ head_of (head_from s)
+  pub head_read : (head : List ℕ) → Filled 1 2 (head_here s) head → length head ≡ 2 → (next : ℕ) → r ≡ Ok next → Ok (record { value = get_or head 1 0; next = next }) ≡ head_of (head_from s)
   head_read head w l next q =
       let t = section_read (head_here s) next (sym q ∙ e) in
       let a : take 2 head ≡ head = rw (← l) (take-length head) in
@@ -234,11 +233,11 @@ module _ (s : List ℕ) (r : Section) (e : r ≡ section_of (head_here s)) where
       rw (← head_here_lem s, t.1, b)
 
 -- `facts_from`
-module _ (names : ℕ) (s : List ℕ) (at : ℕ) (r : Section) (e : r ≡ section_of (facts_from names s at)) where
-  pub facts_refused : (refusal : Refusal) (line : ℕ) → r ≡ S.Refused refusal line → F.Refused refusal line ≡ facts_of names (facts_from names s at)
-  facts_refused refusal line q = rw (section_refused (facts_from names s at) refusal line (sym q ∙ e))
+module _ (names : ℕ) (s : List ℕ) (at : ℕ) (r : Result ℕ Refused) (e : r ≡ section_of (facts_from names s at)) where
+  pub facts_refused : (x : Refused) → r ≡ Err x → Err x ≡ facts_of names (facts_from names s at)
+  facts_refused x q = rw (section_refused (facts_from names s at) x (sym q ∙ e))
 
-  pub facts_read : (facts : List ℕ) → Filled 1 4 (facts_from names s at) facts → length facts ≡ 4 → (next : ℕ) → r ≡ S.Read next → F.Read (record_by names facts) next ≡ facts_of names (facts_from names s at)
+  pub facts_read : (facts : List ℕ) → Filled 1 4 (facts_from names s at) facts → length facts ≡ 4 → (next : ℕ) → r ≡ Ok next → Ok (record { value = record_by names facts; next = next }) ≡ facts_of names (facts_from names s at)
   facts_read facts w l next q =
       let t = section_read (facts_from names s at) next (sym q ∙ e) in
       let a : take 4 facts ≡ facts = rw (← l) (take-length facts) in

@@ -10,6 +10,8 @@ use Rattle.kinds.specs.declared.Kind.{Kind}
 use Rattle.kinds.specs.Kinds.{kinds, entry, side_fits}
 use Rattle.kinds.specs.Steps.{numbers, side_below}
 use Rattle.kinds.proofs.Numbers.{entry_sides}
+use Rattle.std.specs.Prelude.{Ok}
+use Rattle.refusals.specs.Refusals.{refused_at}
 use Rattle.refusals.specs.declared.Refusal.{Refusal}
 use Rattle.refusals.specs.declared.Refusal.TheVariants.{WrongSide}
 use Rattle.lines.specs.declared.Row.{Row}
@@ -17,7 +19,6 @@ use Rattle.lines.specs.declared.RowLine.{RowLine}
 use Rattle.lines.specs.declared.RowLine.TheVariants as R
 use Rattle.lines.specs.Lines.{row_line, row_at}
 use Rattle.lines.proofs.Told.{row_known}
-use Rattle.sheet.specs.declared.sections.Section.TheVariants.{Read, Refused}
 use Rattle.sheet.specs.Header.{first_row}
 use Rattle.sheet.specs.Sections.{wrong_line, row_step, row_numbers, rows_from}
 use Rattle.sheet.specs.Steps.{section_of, Filled, put_whole}
@@ -46,7 +47,7 @@ pub row_loop_start : (names : ℕ) (s : List ℕ) (from count line : ℕ) (t : L
 row_loop_start names s from count line t e = rw e (record { going = going_start (row_step names s) tt 5 count from (first_row names) t; kept = refl; place = omega arith; counted = refl })
 
 module _ (names : ℕ) (s : List ℕ) (from count : ℕ) (t₀ t : List ℕ) (at left line w : ℕ) (g : RowLoop names s from count t₀ t at left line w) where
-  pub row_loop_done : left ≤ 0 → Read at ≡ section_of (rows_from names count s from)
+  pub row_loop_done : left ≤ 0 → Ok at ≡ section_of (rows_from names count s from)
   row_loop_done h = sym (ap section_of (going_done (row_step names s) tt 5 count from (first_row names) t tt at left line w g.going h))
 
   pub row_loop_filled : left ≤ 0 → Filled 5 count (rows_from names count s from) t
@@ -58,7 +59,7 @@ module _ (names : ℕ) (s : List ℕ) (from count : ℕ) (t₀ t : List ℕ) (at
     unfolding row_step row_at
     step_wrong refusal e = rw (← q, e)
 
-    pub row_loop_wrong : (refusal : Refusal) → r ≡ R.Wrong refusal → Refused refusal line ≡ section_of (rows_from names count s from)
+    pub row_loop_wrong : (refusal : Refusal) → r ≡ R.Wrong refusal → refused_at refusal line ≡ section_of (rows_from names count s from)
     row_loop_wrong refusal e = sym (ap section_of (going_wrong (row_step names s) tt 5 count from (first_row names) t tt at left line w g.going more refusal (step_wrong refusal e)))
 
     pub row_loop_wrong_filled : (refusal : Refusal) → r ≡ R.Wrong refusal → Filled 5 count (rows_from names count s from) t
@@ -77,7 +78,7 @@ module _ (names : ℕ) (s : List ℕ) (from count : ℕ) (t₀ t : List ℕ) (at
         unfolding row_step row_at
         side_wrong n = rw (← q, e, ← side_told, not-true b n)
 
-        pub row_loop_side : not b ≡ true → Refused WrongSide line ≡ section_of (rows_from names count s from)
+        pub row_loop_side : not b ≡ true → refused_at WrongSide line ≡ section_of (rows_from names count s from)
         row_loop_side n = sym (ap section_of (going_wrong (row_step names s) tt 5 count from (first_row names) t tt at left line w g.going more WrongSide (side_wrong n)))
 
         pub row_loop_side_filled : not b ≡ true → Filled 5 count (rows_from names count s from) t

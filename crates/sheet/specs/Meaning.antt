@@ -1,12 +1,11 @@
 -- What a load means to whoever asks of its tables: document 01, "A refused load .. leave[s] zeros", and asking's refusals.
-use Rattle.std.specs.Prelude.{ℕ, ◌*◌, ◌≤◌, ◌<◌, ◌≡◌, true, List, length, replicate}
+use Rattle.std.specs.Prelude.{ℕ, ◌*◌, ◌≤◌, ◌<◌, ◌≡◌, true, List, length, replicate, Ok, Err}
 use Rattle.checks.specs.declared.Checked.TheVariants as C
 use Rattle.checks.specs.Checks.{fields_of, ends_of, children_of}
 use Rattle.sheet_record.specs.declared.Record.{Record}
 use Rattle.sheet_record.specs.Records.{record_fits, mark_at}
-use Rattle.refusals.specs.declared.Refusal.{Refusal}
-use Rattle.sheet.specs.declared.Loaded.{Loaded}
-use Rattle.sheet.specs.declared.Loaded.TheVariants.{Done, Refused}
+use Rattle.refusals.specs.declared.Refused.{Refused}
+use Rattle.sheet.specs.Load.{Loaded}
 
 -- what asking checks: 22, then marks, then fields, ends and depth, children
 pub record Asked (r : Record) (rows names : List ℕ) : Type 0 where
@@ -27,6 +26,6 @@ pub data LoadNumbers (number place : ℕ) : Type 0 where
 
 -- a refusal leaves zeros in both tables; a good load leaves tables that pass every check of asking
 pub record LoadMeans (answer : Loaded) (rows names : List ℕ) : Type 0 where
-  pub zero_rows : (refusal : Refusal) (line : ℕ) → answer ≡ Refused refusal line → rows ≡ replicate (length rows) 0
-  pub zero_names : (refusal : Refusal) (line : ℕ) → answer ≡ Refused refusal line → names ≡ replicate (length names) 0
-  pub good : (r : Record) → answer ≡ Done r → Asked r rows names
+  pub zero_rows : (e : Refused) → answer ≡ Err e → rows ≡ replicate (length rows) 0
+  pub zero_names : (e : Refused) → answer ≡ Err e → names ≡ replicate (length names) 0
+  pub good : (r : Record) → answer ≡ Ok r → Asked r rows names

@@ -1,23 +1,18 @@
 -- What the code keeps of a line of the header, what it answers on its way, and what it leaves in the tables.
-use Rattle.std.specs.Prelude.{ℕ, ◌+◌, ◌-◌, ◌*◌, ◌≤◌, ◌<◌, ◌≡◌, Bool, true, false, cond, List, ◌++◌, leb, length, take, drop, get_or, replicate}
+use Rattle.std.specs.Prelude.{ℕ, ◌+◌, ◌-◌, ◌*◌, ◌≤◌, ◌<◌, ◌≡◌, Bool, true, false, cond, List, ◌++◌, leb, length, take, drop, get_or, replicate, Result, Ok}
 use Rattle.writing.specs.Putting.{put}
 use Rattle.lines.specs.declared.NumberLine.{NumberLine}
 use Rattle.lines.specs.Lines.{number_line}
 use Rattle.checks.specs.declared.Checked.TheVariants as C
 use Rattle.checks.specs.Checks.{fields_of}
 use Rattle.sheet_record.specs.declared.Record.{Record}
-use Rattle.sheet.specs.declared.Loaded.{Loaded}
-use Rattle.sheet.specs.declared.Loaded.TheVariants.{Done, Refused}
+use Rattle.refusals.specs.declared.Refused.{Refused}
+use Rattle.refusals.specs.Refusals.{refused_at}
 use Rattle.sheet.specs.declared.header.KeyLine.{KeyLine}
-use Rattle.sheet.specs.declared.header.Head.{Head}
-use Rattle.sheet.specs.declared.header.Head.TheVariants as H
-use Rattle.sheet.specs.declared.header.Facts.{Facts}
-use Rattle.sheet.specs.declared.header.Facts.TheVariants as F
-use Rattle.sheet.specs.declared.sections.Section.{Section}
-use Rattle.sheet.specs.declared.sections.Section.TheVariants as S
+use Rattle.sheet.specs.declared.header.Line.{Line}
 use Rattle.sheet.specs.Header.{Greatest, at_most, below_the_names, greatest, HeaderLine, head_lines, fact_lines, record_by}
 use Rattle.sheet.specs.Sections.{Lines, read, refused}
-use Rattle.sheet.specs.Load.{Before, before, stopped, before_rows, Parsed, parsed, wrong, lines_of, Result, finish_of}
+use Rattle.sheet.specs.Load.{Loaded, Before, before, stopped, before_rows, Parsed, parsed, wrong, lines_of, Loading, finish_of}
 
 -- a line of the header as the code has it: the key in front of six bytes, and its greatest number or that it is below names
 abbrev pub given_greatest : Greatest → ℕ
@@ -55,9 +50,9 @@ abbrev pub header_from : ℕ → List HeaderLine
 header_from first = drop first (head_lines ++ fact_lines)
 
 -- what the code answers of lines: all but their numbers
-abbrev pub section_of : Lines → Section
-section_of (read numbers next) = S.Read next
-section_of (refused refusal line) = S.Refused refusal line
+abbrev pub section_of : Lines → Result ℕ Refused
+section_of (read numbers next) = Ok next
+section_of (refused refusal line) = refused_at refusal line
 
 -- what a section leaves in its table, which had room for it: its numbers in front. If it is refused, or has no room, the
 -- caller clears the table, and nothing is said of it.
@@ -73,27 +68,23 @@ pub record Short (s : List ℕ) : Type 0 where
   pub bytes : length s ≤ 65536
 
 -- what the code answers of the lines before the names: their count
-abbrev pub head_of : Lines → Head
-head_of (read numbers next) = H.Read (get_or numbers 1 0) next
-head_of (refused refusal line) = H.Refused refusal line
+abbrev pub head_of : Lines → Result (Line ℕ) Refused
+head_of (read numbers next) = Ok (record { value = get_or numbers 1 0; next = next })
+head_of (refused refusal line) = refused_at refusal line
 
 -- of the lines after the names: the record
-abbrev pub facts_of : ℕ → Lines → Facts
-facts_of names (read numbers next) = F.Read (record_by names numbers) next
-facts_of names (refused refusal line) = F.Refused refusal line
+abbrev pub facts_of : ℕ → Lines → Result (Line Record) Refused
+facts_of names (read numbers next) = Ok (record { value = record_by names numbers; next = next })
+facts_of names (refused refusal line) = refused_at refusal line
 
 -- of all lines before the rows: all but the numbers of the names
-abbrev pub before_of : Before → Facts
-before_of (before r numbers next) = F.Read r next
-before_of (stopped refusal line) = F.Refused refusal line
+abbrev pub before_of : Before → Result (Line Record) Refused
+before_of (before r numbers next) = Ok (record { value = r; next = next })
+before_of (stopped refusal line) = refused_at refusal line
 
 abbrev pub answer_of : Parsed → Loaded
-answer_of (parsed r names rows) = Done r
-answer_of (wrong refusal line) = Refused refusal line
-
-abbrev pub is_refused : Loaded → Bool
-is_refused (Done r) = false
-is_refused (Refused refusal line) = true
+answer_of (parsed r names rows) = Ok r
+answer_of (wrong refusal line) = refused_at refusal line
 
 -- the numbers stand in front of a table that has room for them
 pub record NamesFilled (s table : List ℕ) : Type 0 where
@@ -119,10 +110,10 @@ pub record FieldsRead (r : Record) (rows : List ℕ) : Type 0 where
       → fields_of table r.rows r.names ≡ C.Passed
 
 -- what follows good lines whose numbers stand in front of the tables
-unfoldable pub finish_fronts : Record → List ℕ → List ℕ → Result
+unfoldable pub finish_fronts : Record → List ℕ → List ℕ → Loading
 finish_fronts r rows names = finish_of (length rows) (length names) r (take (3 * r.names) names) (take (5 * r.rows) rows)
 
 -- the tables of a good load, which the code has filled; those of a refused one it clears after
-pub record GoodFilled (answer : Loaded) (result : Result) (rows names : List ℕ) : Type 0 where
-  pub row_table : (r : Record) → answer ≡ Done r → rows ≡ result.rows
-  pub name_table : (r : Record) → answer ≡ Done r → names ≡ result.names
+pub record GoodFilled (answer : Loaded) (result : Loading) (rows names : List ℕ) : Type 0 where
+  pub row_table : (r : Record) → answer ≡ Ok r → rows ≡ result.rows
+  pub name_table : (r : Record) → answer ≡ Ok r → names ≡ result.names

@@ -5,9 +5,8 @@ ghost use Rattle.sheet.specs.Header.{head_lines, fact_lines};
 ghost use Rattle.sheet.specs.Sections.{lines_from, number_step, head_from, facts_from};
 ghost use Rattle.sheet.specs.Steps.{key_line, KeyHeld, greatest_by, KeyRead, header_from, section_of, Filled, head_of, facts_of};
 
-use super::sections::Section;
 use lines::NumberLine;
-use refusals::Refusal;
+use refusals::Refused;
 use sheet_record::Record;
 
 // The key of a line, in front of six bytes, how many bytes it has, and the least and the greatest number that the line may hold, which is the
@@ -21,18 +20,10 @@ struct KeyLine {
     below_names: bool,
 }
 
-// The count of names, and where they start; or the first refusal, and its line.
 #[derive(Clone, Copy)]
-pub enum Head {
-    Read(usize, usize),
-    Refused(Refusal, usize),
-}
-
-// The record, and where the rows start; or the first refusal, and its line.
-#[derive(Clone, Copy)]
-pub enum Facts {
-    Read(Record, usize),
-    Refused(Refusal, usize),
+pub struct Line<T> {
+    pub value: T,
+    pub next: usize,
 }
 
 // The lines before the names, the line of the first name, and the lines between names and rows.
@@ -126,7 +117,7 @@ fn numbers_from(
     names: usize,
     line: usize,
     numbers: &mut [usize],
-) -> Section
+) -> Result<usize, Refused>
     requires { (first + length numbers.old ≤ 6) × (line ≤ 2500) }
     ensures value { result ≡ section_of (lines_from (number_step names s.now) (length numbers.old) (header_from first) from line) }
     ensures filled { Filled 1 (length numbers.old) (lines_from (number_step names s.now) (length numbers.old) (header_from first) from line) numbers.new }
@@ -138,7 +129,7 @@ fn numbers_from(
         let read = key_line(s, at, header[first + i], names);
         match read {
             NumberLine::Wrong(refusal) => {
-                return Section::Refused(refusal, line + i);
+                return Err(Refused { refusal, place: line + i });
             }
             NumberLine::Value(value, next) => {
                 numbers[i] = value;
@@ -147,39 +138,34 @@ fn numbers_from(
         }
         i += 1;
     }
-    Section::Read(at)
+    Ok(at)
 }
 
-// The two lines before the names.
-pub fn head_of(s: &[u8]) -> Head
+// The two lines before the names: the count of names, and where they start.
+pub fn head_of(s: &[u8]) -> Result<Line<usize>, Refused>
     ensures { result ≡ head_of (head_from s.now) }
 {
     let mut head = [0usize; HEAD_LINES];
-    let read = numbers_from(s, 0, 0, 0, 1, &mut head);
-    match read {
-        Section::Refused(refusal, line) => Head::Refused(refusal, line),
-        Section::Read(next) => Head::Read(head[1], next),
-    }
+    let next = numbers_from(s, 0, 0, 0, 1, &mut head)?;
+    Ok(Line { value: head[1], next })
 }
 
-// The four lines after the names.
-pub fn facts_from(s: &[u8], at: usize, names: usize) -> Facts
+// The four lines after the names: the record, and where the rows start.
+pub fn facts_from(s: &[u8], at: usize, names: usize) -> Result<Line<Record>, Refused>
     requires { names ≤ 500 }
     ensures { result ≡ facts_of names (facts_from names s.now at) }
 {
     let mut facts = [0usize; FACT_LINES];
-    let read = numbers_from(s, at, HEAD_LINES, names, FIRST_NAME + names, &mut facts);
-    match read {
-        Section::Refused(refusal, line) => Facts::Refused(refusal, line),
-        Section::Read(next) => Facts::Read(
-            Record {
-                names: names,
-                rows: facts[3],
-                local: facts[0],
-                start: facts[1],
-                sole: facts[2],
-            },
-            next,
-        ),
-    }
+    let next = numbers_from(s, at, HEAD_LINES, names, FIRST_NAME + names, &mut facts)?;
+    let [local, start, sole, rows] = facts;
+    Ok(Line {
+        value: Record {
+            names,
+            rows,
+            local,
+            start,
+            sole,
+        },
+        next,
+    })
 }

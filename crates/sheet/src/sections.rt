@@ -7,14 +7,7 @@ ghost use Rattle.sheet.specs.Steps.{section_of, Filled, put_whole, Short};
 
 use super::header::{FACT_LINES, FIRST_NAME};
 use lines::{Name, NameLine, Row, RowLine};
-use refusals::Refusal;
-
-// Where the lines after the section start, or the first refusal and its line.
-#[derive(Clone, Copy)]
-pub enum Section {
-    Read(usize),
-    Refused(Refusal, usize),
-}
+use refusals::{Refusal, Refused};
 
 fn narrow(n: usize) -> u32
     requires { n ≤ 65536 }
@@ -42,8 +35,8 @@ fn put_name(names: &mut [u32], w: usize, name: Name)
     names[w + 2] = name.mark;
 }
 
-// The name lines from a place on.
-pub fn names_from(s: &[u8], from: usize, count: usize, names: &mut [u32]) -> Section
+// The name lines from a place on: where the line after them starts.
+pub fn names_from(s: &[u8], from: usize, count: usize, names: &mut [u32]) -> Result<usize, Refused>
     requires short { Short s.now }
     requires count_bound { count ≤ 500 }
     ensures value { result ≡ section_of (names_from count s.now from) }
@@ -59,7 +52,7 @@ pub fn names_from(s: &[u8], from: usize, count: usize, names: &mut [u32]) -> Sec
         let read = lines::name_line(s, at, &s[before..before_end]);
         match read {
             NameLine::Wrong(refusal) => {
-                return Section::Refused(refusal, line);
+                return Err(Refused { refusal, place: line });
             }
             NameLine::Read(name, next) => {
                 put_name(names, w, name);
@@ -72,7 +65,7 @@ pub fn names_from(s: &[u8], from: usize, count: usize, names: &mut [u32]) -> Sec
         line += 1;
         w += 3;
     }
-    Section::Read(at)
+    Ok(at)
 }
 
 fn put_row(rows: &mut [u32], w: usize, row: Row)
@@ -97,8 +90,8 @@ pub fn first_row(names: usize) -> usize
     FIRST_NAME + names + FACT_LINES
 }
 
-// The row lines from a place on, after so many names.
-pub fn rows_from(s: &[u8], from: usize, count: usize, names: usize, rows: &mut [u32]) -> Section
+// The row lines from a place on, after so many names: where the line after them starts.
+pub fn rows_from(s: &[u8], from: usize, count: usize, names: usize, rows: &mut [u32]) -> Result<usize, Refused>
     requires { (count ≤ 2000) × (names ≤ 500) }
     ensures value { result ≡ section_of (rows_from names count s.now from) }
     ensures filled { Filled 5 count (rows_from names count s.now from) rows.new }
@@ -112,13 +105,13 @@ pub fn rows_from(s: &[u8], from: usize, count: usize, names: usize, rows: &mut [
         let read = lines::row_line(s, at);
         match read {
             RowLine::Wrong(refusal) => {
-                return Section::Refused(refusal, line);
+                return Err(Refused { refusal, place: line });
             }
             RowLine::Read(row, next) => {
                 let k = table::wide(row.kind);
                 let kind = entries[k];
                 if !kinds::side_fits(kind, table::wide(row.side), names) {
-                    return Section::Refused(Refusal::WrongSide, line);
+                    return Err(Refused { refusal: Refusal::WrongSide, place: line });
                 }
                 put_row(rows, w, row);
                 at = next;
@@ -128,5 +121,5 @@ pub fn rows_from(s: &[u8], from: usize, count: usize, names: usize, rows: &mut [
         line += 1;
         w += 5;
     }
-    Section::Read(at)
+    Ok(at)
 }
