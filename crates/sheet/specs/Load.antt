@@ -5,9 +5,7 @@ use Rattle.refusals.specs.declared.Refusal.{Refusal}
 use Rattle.refusals.specs.declared.Refusal.TheVariants.{WrongLine, TooLong, NoRoom}
 use Rattle.refusals.specs.declared.Refused.{Refused}
 use Rattle.refusals.specs.Refusals.{refusal_number, refused_at}
-use Rattle.checks.specs.declared.Checked.{Checked}
-use Rattle.checks.specs.declared.Checked.TheVariants as C
-use Rattle.checks.specs.Checks.{children_of}
+use Rattle.checks.specs.Checks.{Checked, children_of}
 use Rattle.sheet_record.specs.declared.Record.{Record}
 use Rattle.sheet.specs.Header.{record_by, first_row}
 use Rattle.sheet.specs.Sections.{after_lines, head_from, names_from, facts_from, rows_from}
@@ -84,8 +82,8 @@ has_room row_room name_room r = leb (5 * r.rows) row_room && leb (3 * r.names) n
 
 -- "7 and 8 in row order, 7 before 8; then 9 in row order", each at the line of its row
 abbrev pub after_checks : Checked → Record → Loaded
-after_checks C.Passed r = Ok r
-after_checks (C.Refused refusal row) r = refused_at refusal (line_of r row)
+after_checks (Ok u) r = Ok r
+after_checks (Err e) r = refused_at e.refusal (line_of r e.place)
 
 -- the answer for lines that were read into tables with room
 unfoldable pub checked_answer : Record → List ℕ → Loaded

@@ -3,8 +3,7 @@ use Rattle.std.specs.Prelude.{ℕ, ◌+◌, ◌-◌, ◌*◌, ◌≤◌, ◌<◌
 use Rattle.writing.specs.Putting.{put}
 use Rattle.lines.specs.declared.NumberLine.{NumberLine}
 use Rattle.lines.specs.Lines.{number_line}
-use Rattle.checks.specs.declared.Checked.TheVariants as C
-use Rattle.checks.specs.Checks.{fields_of}
+use Rattle.checks.specs.Checks.{passed, fields_of}
 use Rattle.sheet_record.specs.declared.Record.{Record}
 use Rattle.refusals.specs.declared.Refused.{Refused}
 use Rattle.refusals.specs.Refusals.{refused_at}
@@ -107,7 +106,7 @@ pub record Room (r : Record) (rows names : List ℕ) : Type 0 where
 -- a table whose rows, if it has room for them, were read from lines: in every table that has them in front the fields pass
 pub record FieldsRead (r : Record) (rows : List ℕ) : Type 0 where
   pub pass : 5 * r.rows ≤ length rows → (table : List ℕ) → 5 * r.rows ≤ length table → take (5 * r.rows) table ≡ take (5 * r.rows) rows
-      → fields_of table r.rows r.names ≡ C.Passed
+      → fields_of table r.rows r.names ≡ passed
 
 -- what follows good lines whose numbers stand in front of the tables
 unfoldable pub finish_fronts : Record → List ℕ → List ℕ → Loading

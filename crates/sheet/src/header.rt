@@ -129,7 +129,10 @@ fn numbers_from(
         let read = key_line(s, at, header[first + i], names);
         match read {
             NumberLine::Wrong(refusal) => {
-                return Err(Refused { refusal, place: line + i });
+                return Err(Refused {
+                    refusal,
+                    place: line + i,
+                });
             }
             NumberLine::Value(value, next) => {
                 numbers[i] = value;
@@ -147,7 +150,10 @@ pub fn head_of(s: &[u8]) -> Result<Line<usize>, Refused>
 {
     let mut head = [0usize; HEAD_LINES];
     let next = numbers_from(s, 0, 0, 0, 1, &mut head)?;
-    Ok(Line { value: head[1], next })
+    Ok(Line {
+        value: head[1],
+        next,
+    })
 }
 
 // The four lines after the names: the record, and where the rows start.

@@ -52,7 +52,10 @@ pub fn names_from(s: &[u8], from: usize, count: usize, names: &mut [u32]) -> Res
         let read = lines::name_line(s, at, &s[before..before_end]);
         match read {
             NameLine::Wrong(refusal) => {
-                return Err(Refused { refusal, place: line });
+                return Err(Refused {
+                    refusal,
+                    place: line,
+                });
             }
             NameLine::Read(name, next) => {
                 put_name(names, w, name);
@@ -91,7 +94,13 @@ pub fn first_row(names: usize) -> usize
 }
 
 // The row lines from a place on, after so many names: where the line after them starts.
-pub fn rows_from(s: &[u8], from: usize, count: usize, names: usize, rows: &mut [u32]) -> Result<usize, Refused>
+pub fn rows_from(
+    s: &[u8],
+    from: usize,
+    count: usize,
+    names: usize,
+    rows: &mut [u32],
+) -> Result<usize, Refused>
     requires { (count ≤ 2000) × (names ≤ 500) }
     ensures value { result ≡ section_of (rows_from names count s.now from) }
     ensures filled { Filled 5 count (rows_from names count s.now from) rows.new }
@@ -105,13 +114,19 @@ pub fn rows_from(s: &[u8], from: usize, count: usize, names: usize, rows: &mut [
         let read = lines::row_line(s, at);
         match read {
             RowLine::Wrong(refusal) => {
-                return Err(Refused { refusal, place: line });
+                return Err(Refused {
+                    refusal,
+                    place: line,
+                });
             }
             RowLine::Read(row, next) => {
                 let k = table::wide(row.kind);
                 let kind = entries[k];
                 if !kinds::side_fits(kind, table::wide(row.side), names) {
-                    return Err(Refused { refusal: Refusal::WrongSide, place: line });
+                    return Err(Refused {
+                        refusal: Refusal::WrongSide,
+                        place: line,
+                    });
                 }
                 put_row(rows, w, row);
                 at = next;
