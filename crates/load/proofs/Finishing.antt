@@ -2,10 +2,12 @@
 -- only ends, depth and children can refuse.
 use Prim.Native.Nat.{ℕ, ◌-◌, ◌*◌, ◌≤◌}
 use mathlib.Core.Path.{◌≡◌, refl, sym, ap, ◌∙◌}
-use mathlib.Core.List.{List, ◌++◌}
+use mathlib.Core.List.{List, ◌++◌, append-nil}
 use native.Mathlib.Omega.{arith}
 use lib.ListN.{length, take, replicate, length-append, length-replicate}
-use lib.Seq.{length-take-le, take_at}
+use native.Mathlib.Nat.{le_refl}
+use lib.Seq.{length-take-le, take_at, drop-length}
+use borrow.Rule.Slice.PartMut.{put_mid, mid_of, Post-is, mid_len}
 use lib.Dec.{leb}
 use mathlib.Core.Bool.{true, false, and-eq-true_iff}
 use borrow.Author.Tests.{le-leb, leb-true}
@@ -32,6 +34,10 @@ pub answered : (row_room name_room : ℕ) (a : Loaded) (rows names : List ℕ) �
 unfolding refuse
 answered row_room name_room (Ok r) rows names = refl
 answered row_room name_room (Err x) rows names = refl
+
+-- a part filled with zeros, when it is back in its table
+pub tail_cleared : (a : ℕ) (t ys : List ℕ) → a ≤ length t → ys ≡ replicate (length (mid_of a (length t - a) t)) 0 → put_mid a (length t - a) t ys ≡ take a t ++ replicate (length t - a) 0
+tail_cleared a t ys h e = rw (e, Post-is a (length t) t h, drop-length, append-nil, mid_len a (length t) t (le_refl (length t)))
 
 -- a table whose tail was cleared after its front
 tail_table : (t : List ℕ) (k : ℕ) → k ≤ length t → take k t ++ replicate (length t - k) 0 ≡ table_of (length t) (take k t)

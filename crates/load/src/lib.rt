@@ -11,13 +11,6 @@ use refusals::{Refusal, Refused};
 use sheet::Loaded;
 use sheet_record::Record;
 
-fn clear_from(t: &mut [u32], at: usize)
-    requires { at ≤ length t.old }
-    ensures { t.new ≡ take at t.old ++ replicate (length t.old - at) 0 }
-{
-    t[at..].fill(0);
-}
-
 // The check of the rows: refusals 7 to 9. Kinds and side numbers pass, since the lines have passed.
 fn checked_answer(record: Record, rows: &[u32]) -> Loaded
     requires { («record».names ≤ 500) × (fields_of rows.now «record».rows «record».names ≡ passed) }
@@ -39,8 +32,8 @@ fn clear_and_check(record: Record, rows: &mut [u32], names: &mut [u32]) -> Loade
     ensures value { result ≡ (finish_fronts «record» rows.old names.old).answer }
     ensures filled { GoodFilled result (finish_fronts «record» rows.old names.old) rows.new names.new }
 {
-    clear_from(rows, 5 * record.rows);
-    clear_from(names, 3 * record.names);
+    rows[5 * record.rows..].fill(0);
+    names[3 * record.names..].fill(0);
     checked_answer(record, rows)
 }
 
