@@ -1,8 +1,7 @@
+pub mod Places
 pub mod Stops
 pub mod FieldReads
-pub mod Prefixes
 pub mod Order
 pub mod Runs
 pub mod DigitLaws
 pub mod GraphicLaws
-pub mod FieldLaws
