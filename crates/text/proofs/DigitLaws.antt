@@ -1,19 +1,17 @@
 -- What the digits that `number` reads at a place tell of the field there: where it ends, and what it spells. Reading stops early where a number is too
 -- large or a zero leads, and then the field spells none. The inductions are on the bytes.
 use Prim.Native.Nat.{ℕ, ◌+◌, ◌*◌, ◌≤◌, ◌<◌, ◌-◌}
-use mathlib.Core.Path.{◌≡◌, refl, ◌∙◌}
+use mathlib.Core.Path.{◌≡◌, refl}
 use mathlib.Core.Bool.{Bool, true, false, cond, ◌&&◌, and-eq-true_iff}
 use mathlib.Core.List.{List, [], ◌∷◌}
 use native.Mathlib.Omega.{arith}
-use lib.ListN.{drop}
 use lib.Dec.{eqb, leb}
 use borrow.Author.Tests.{leb-true, leb-false, lt-leb, eqb-true, ne_eqb}
-use Rattle.std.specs.Prelude.{Option, Some, None}
-use Rattle.text.specs.Fields.{is_stop, field_length, field_of, stop_at}
-use Rattle.text.specs.Steps.{after_byte, goes_on, more_value, more_count, first_value, first_count, field_read}
-use Rattle.text.specs.declared.Field.{Field}
+use Rattle.std.specs.Prelude.{Option, None}
+use Rattle.text.specs.Fields.{is_stop, field_length, field_of}
+use Rattle.text.specs.Steps.{goes_on, more_value, more_count, first_value, first_count}
 use Rattle.text.specs.Numbers.{is_digit, all_digits, is_empty, zero_first, decimal, bounded, number_of}
-use Rattle.text.proofs.FieldReads.{Reads, reads_all, reads_none, reads_more, read_ended, read_far, read_never}
+use Rattle.text.proofs.FieldReads.{Reads, reads_all, reads_none, reads_more}
 
 -- a byte is a digit, or ends the field, or neither
 data Byte (sep b : ℕ) : Type 0 where
@@ -93,7 +91,7 @@ module _ (sep : ℕ) (small : sep ≤ 32) where
       go false s = rw s (reads_none s)
 
   -- the digits from the first byte on
-  first : (t : List ℕ) → Reads None sep t (first_count t) (first_value t) (number_of (field_of sep t))
+  pub first : (t : List ℕ) → Reads None sep t (first_count t) (first_value t) (number_of (field_of sep t))
   unfolding first_count first_value number_of is_empty field_of field_length bounded
   first [] = reads_all refl
   first (b ∷ t) = go (byte sep b small) (eqb b 48) refl
@@ -103,23 +101,3 @@ module _ (sep : ℕ) (small : sep ≤ 32) where
       go (digit d s) false z = rw (s, starts b (field_of sep t) z, z, d) (reads_more s (more (b - 48) t))
       go (stops d s) false z = rw (s, z, d) (reads_all (rw s))
       go (other d s) false z = rw (s, starts b (field_of sep t) z, z, d) (reads_none s)
-
--- `number` at a place, where the digits go up to `stop`
-module _ (sep end : ℕ) (s : List ℕ) (at : ℕ) (small : sep ≤ 32) (stop : ℕ) (i : stop ≡ at + first_count (drop at s)) where
-  out : Option ℕ → ℕ → Field
-  out value next = record { value = value; next = next }
-
-  -- where `end` follows them, the field spells their number, and none if that is too large or there is no digit
-  pub number_ended : is_stop sep end ≡ true → (o : Option ℕ) → o ≡ after_byte end s stop → (next : ℕ) → o ≡ Some next → (v : Option ℕ) → v ≡ first_value (drop at s) → Some (record { value = v; next = next }) ≡ field_read number_of sep end s at
-  unfolding field_read out
-  number_ended e o q next p v f = rw f (read_ended None sep end s at _ _ _ (first sep small (drop at s)) stop i out e o q next p)
-
-  -- where another byte follows them, the field goes on or is not ended by `end`, and spells none
-  module _ (o : Option ℕ) (far : ℕ) (f : far ≡ stop_at sep s stop) (q : o ≡ after_byte end s far) where
-    pub number_far : (m : Option ℕ) → m ≡ after_byte end s stop → m ≡ None → (next : ℕ) → o ≡ Some next → Some (record { value = None; next = next }) ≡ field_read number_of sep end s at
-    unfolding field_read out
-    number_far m n z next p = read_far None sep end s at _ _ _ (first sep small (drop at s)) stop i out o (q ∙ rw f) m n z next p
-
-    pub number_never : o ≡ None → None ≡ field_read number_of sep end s at
-    unfolding field_read out
-    number_never z = read_never None sep end s at _ _ _ (first sep small (drop at s)) stop i out o (q ∙ rw f) z

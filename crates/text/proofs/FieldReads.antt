@@ -11,8 +11,9 @@ use lib.ListN.{length, drop, get_or}
 use lib.Seq.{drop-drop, get_or-drop}
 use borrow.Author.Tests.{eqb-true}
 use Rattle.std.specs.Prelude.{Option, Some, None, cond}
-use Rattle.text.specs.Fields.{byte_at, is_stop, field_length, stop_at, stands, ends_by, after}
-use Rattle.text.specs.Steps.{after_byte}
+use Rattle.text.specs.Fields.{byte_at, is_stop, field_length, stop_at, stands, ends_by, after, field}
+use Rattle.text.specs.Steps.{after_byte, field_read}
+use Rattle.text.specs.declared.Field.{Field}
 use Rattle.text.proofs.Places.{byte_found, byte_missed}
 
 -- the first `count` bytes of t are in its field; `all` is what they tell where they are all of it, `some` where they are not,
@@ -106,3 +107,21 @@ module _ {A B : Type 0} (some : A) (sep end : ℕ) (s : List ℕ) (at count : �
     pub read_never : o ≡ None → None ≡ cond (ends_by sep end s at) (Some (out told (after sep s at))) None
     unfolding ends_by
     read_never z = rw (← rest_stop some sep s at count all told r stop i, byte_missed end s (stop_at sep s stop) o q z)
+
+-- the same of what a field says to a reader, None where the bytes read are not all of it
+module _ (says : List ℕ → Option ℕ) (sep end : ℕ) (s : List ℕ) (at count : ℕ) (all : Option ℕ) (r : Reads None sep (drop at s) count all (says (field sep s at))) (stop : ℕ) (i : stop ≡ at + count) where
+  out : Option ℕ → ℕ → Field
+  out value next = record { value = value; next = next }
+
+  pub says_ended : is_stop sep end ≡ true → (o : Option ℕ) → o ≡ after_byte end s stop → (next : ℕ) → o ≡ Some next → Some (record { value = all; next = next }) ≡ field_read says sep end s at
+  unfolding field_read out
+  says_ended = read_ended None sep end s at count all (says (field sep s at)) r stop i out
+
+  module _ (o : Option ℕ) (far : ℕ) (f : far ≡ stop_at sep s stop) (q : o ≡ after_byte end s far) where
+    pub says_far : (m : Option ℕ) → m ≡ after_byte end s stop → m ≡ None → (next : ℕ) → o ≡ Some next → Some (record { value = None; next = next }) ≡ field_read says sep end s at
+    unfolding field_read out
+    says_far = read_far None sep end s at count all (says (field sep s at)) r stop i out o (q ∙ rw f)
+
+    pub says_never : o ≡ None → None ≡ field_read says sep end s at
+    unfolding field_read out
+    says_never = read_never None sep end s at count all (says (field sep s at)) r stop i out o (q ∙ rw f)

@@ -5,3 +5,4 @@ pub mod Order
 pub mod Runs
 pub mod DigitLaws
 pub mod GraphicLaws
+pub mod FieldLaws
