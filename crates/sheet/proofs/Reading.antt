@@ -12,7 +12,7 @@ use Rattle.refusals.specs.Refusals.{refused_at}
 use Rattle.refusals.specs.declared.Refusal.TheVariants.{WrongLine}
 use Rattle.lines.proofs.InRange.{Ranged}
 use Rattle.sheet_record.specs.declared.Record.{Record}
-use Rattle.sheet.specs.declared.header.Line.{Line}
+use Rattle.lines.specs.declared.Line.{Line}
 use Rattle.sheet.specs.Header.{record_by}
 use Rattle.sheet.specs.Sections.{Lines, read, refused, after_lines, head_from, names_from, facts_from, rows_from}
 use Rattle.sheet.specs.Load.{Before, before, stopped, before_rows, parsed, wrong, line_of, lines_of}

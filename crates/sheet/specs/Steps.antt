@@ -1,52 +1,48 @@
 -- What the code keeps of a line of the header, what it answers on its way, and what it leaves in the tables.
-use Rattle.std.specs.Prelude.{ℕ, ◌+◌, ◌-◌, ◌*◌, ◌≤◌, ◌<◌, ◌≡◌, Bool, true, false, cond, List, ◌++◌, leb, length, take, drop, get_or, replicate, Result, Ok}
+use Rattle.std.specs.Prelude.{ℕ, ◌+◌, ◌*◌, ◌≤◌, ◌<◌, ◌≡◌, cond, List, [], ◌∷◌, leb, length, take, get_or, Result, Ok, Err}
 use Rattle.writing.specs.Putting.{put}
-use Rattle.lines.specs.declared.NumberLine.{NumberLine}
-use Rattle.lines.specs.Lines.{number_line}
+use Rattle.lines.specs.declared.Line.{Line}
 use Rattle.checks.specs.Checks.{passed, fields_of}
 use Rattle.sheet_record.specs.declared.Record.{Record}
+use Rattle.refusals.specs.declared.Refusal.{Refusal}
 use Rattle.refusals.specs.declared.Refused.{Refused}
 use Rattle.refusals.specs.Refusals.{refused_at}
 use Rattle.sheet.specs.declared.header.KeyLine.{KeyLine}
-use Rattle.sheet.specs.declared.header.Line.{Line}
-use Rattle.sheet.specs.Header.{Greatest, at_most, below_the_names, greatest, HeaderLine, head_lines, fact_lines, record_by}
+use Rattle.sheet.specs.declared.header.Limit.{Limit}
+use Rattle.sheet.specs.declared.header.Limit.TheVariants.{AtMost, BelowNames}
+use Rattle.sheet.specs.Header.{Greatest, at_most, below_the_names, HeaderLine, record_by}
 use Rattle.sheet.specs.Sections.{Lines, read, refused}
 use Rattle.sheet.specs.Load.{Loaded, Before, before, stopped, before_rows, Parsed, parsed, wrong, lines_of, Loading, finish_of}
 
--- a line of the header as the code has it: the key in front of six bytes, and its greatest number or that it is below names
-abbrev pub given_greatest : Greatest → ℕ
-given_greatest (at_most n) = n
-given_greatest below_the_names = 0
+-- the greatest number of a line, as the code has it
+abbrev pub limit_of : Limit → Greatest
+limit_of (AtMost n) = at_most n
+limit_of BelowNames = below_the_names
 
-abbrev pub is_below_names : Greatest → Bool
-is_below_names (at_most n) = false
-is_below_names below_the_names = true
+-- a table of lines whose keys have bytes
+pub record KeysHeld (ks : List KeyLine) : Type 0 where
+  pub some : (i : ℕ) (d : KeyLine) → i < length ks → 0 < length (get_or ks i d).key.now
 
-unfoldable pub key_line : HeaderLine → KeyLine
-key_line l = record {
-  key = l.key ++ replicate (6 - length l.key) 0;
-  size = length l.key;
-  low = l.low;
-  high = given_greatest l.high;
-  below_names = is_below_names l.high;
-}
+-- a line of the header as the code has it
+pub record KeyOf (k : KeyLine) (l : HeaderLine) : Type 0 where
+  pub key : k.key.now ≡ l.key
+  pub low : k.low ≡ l.low
+  pub high : limit_of k.high ≡ l.high
 
--- a line whose key has bytes, and is held
-pub record KeyHeld (line : KeyLine) : Type 0 where
-  pub some : 0 < line.size
-  pub room : line.size ≤ length line.key
+-- a table of such lines, one for one
+pub data Keys : List KeyLine → List HeaderLine → Type 0 where
+  no_key : Keys [] []
+  one_key : {k : KeyLine} {ks : List KeyLine} {l : HeaderLine} {ls : List HeaderLine} → KeyOf k l → Keys ks ls → Keys (k ∷ ks) (l ∷ ls)
 
--- its greatest number, with so many names
-unfoldable pub greatest_by : KeyLine → ℕ → ℕ
-greatest_by line names = cond line.below_names (names - 1) line.high
+-- what is read on a line, or the line's refusal with its number
+abbrev pub at_line : {A : Type 0} → ℕ → Result A Refusal → Result A Refused
+at_line line (Ok x) = Ok x
+at_line line (Err refusal) = refused_at refusal line
 
--- what `key_line` tells: the number on a line, by the line that the code has
-pub record KeyRead (line : KeyLine) (names : ℕ) (s : List ℕ) (at : ℕ) (r : NumberLine) : Type 0 where
-  pub told : (l : HeaderLine) → line ≡ key_line l → r ≡ number_line l.key l.low (greatest l.high names) s at
-
--- the lines of the header from one of them on
-abbrev pub header_from : ℕ → List HeaderLine
-header_from first = drop first (head_lines ++ fact_lines)
+-- what the code answers of lines that hold one number each
+abbrev pub numbers_of : Lines → Result (Line (List ℕ)) Refused
+numbers_of (read numbers next) = Ok (record { value = numbers; next = next })
+numbers_of (refused refusal line) = refused_at refusal line
 
 -- what the code answers of lines: all but their numbers
 abbrev pub section_of : Lines → Result ℕ Refused

@@ -3,9 +3,9 @@
 
 ghost use Rattle.std.specs.Prelude.{◌≡◌, ◌≤◌};
 ghost use Rattle.sheet.specs.Load.{refusal_of, place_of, record_of, before_rows, line_of, lines_of};
-ghost use Rattle.sheet.specs.Steps.{Short, before_of, answer_of, NamesFilled, BothFilled};
+ghost use Rattle.sheet.specs.Steps.{at_line, Short, before_of, answer_of, NamesFilled, BothFilled};
 
-use header::Line;
+use lines::Line;
 use refusals::{Refusal, Refused};
 use sheet_record::Record;
 
@@ -49,6 +49,16 @@ pub fn record_of(loaded: Loaded) -> Record
             sole: 0,
         },
     }
+}
+
+// What is read on a line, or the line's refusal with its number.
+fn at_line<T>(line: usize, read: Result<T, Refusal>) -> Result<T, Refused>
+    ensures { result ≡ at_line line read }
+{
+    read.map_err(|refusal| Refused {
+        refusal,
+        place: line,
+    })
 }
 
 // The lines before the rows.
