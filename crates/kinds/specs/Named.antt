@@ -1,8 +1,6 @@
 -- The kinds that the rules of references, evaluation, effects and statements speak of by name.
-use Rattle.std.specs.Prelude.{ℕ, ◌-◌, Bool, false, cond, ◌||◌, List, [], ◌∷◌, eqb, leb}
+use Rattle.std.specs.Prelude.{ℕ, ◌-◌, Bool, false, cond, ◌||◌, Option, Some, None, List, [], ◌∷◌, eqb, leb}
 use Prim.Native.String.{String}
-use Rattle.kinds.specs.declared.Found.{Found}
-use Rattle.kinds.specs.declared.Found.TheVariants.{Is, Unknown}
 use Rattle.kinds.specs.declared.ExprClass.{ExprClass}
 use Rattle.kinds.specs.declared.ExprClass.TheVariants.{Ident, Call, Lident, Opaque, Event, Unary, Binary, Ternary, Paren, Other}
 use Rattle.kinds.specs.declared.StmtClass.{StmtClass}
@@ -12,9 +10,9 @@ use Rattle.kinds.specs.Kinds.{bytes}
 use Rattle.kinds.specs.Words.{kind_of}
 
 -- a kind's number; 66, the first that is no kind's, where there is none
-unfoldable pub kind_number : Found → ℕ
-kind_number (Is k) = k
-kind_number Unknown = 66
+unfoldable pub kind_number : Option ℕ → ℕ
+kind_number (Some k) = k
+kind_number None = 66
 
 -- "Kind numbers count from 0 in this order": the number of the kind with this word
 unfoldable pub numbered : String → ℕ

@@ -14,13 +14,6 @@ pub struct Kind {
     pub children: usize,
 }
 
-// The kind of a word.
-#[derive(Clone, Copy)]
-pub enum Found {
-    Is(u32),
-    Unknown,
-}
-
 // The kinds that the rules of expressions and targets name.
 #[derive(Clone, Copy)]
 pub enum ExprClass {
