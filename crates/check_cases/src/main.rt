@@ -8,7 +8,7 @@
 // `|` is a word: its kind number, 66 where it is none. A read or a write that fails ends the run with its error.
 #![tactic(auto)]
 
-use checks::Checked;
+use refusals::{Refusal, Refused};
 use std::io;
 
 fn say(rt: &impl Print, text: &[u8]) -> io::Result<()> {
@@ -19,26 +19,28 @@ fn number(rt: &impl Print, n: usize) -> io::Result<()> {
     rt.print(n)
 }
 
-fn answer(rt: &impl Print, text: &[u8], checked: Checked) -> io::Result<()> {
+fn answer(rt: &impl Print, text: &[u8], checked: Result<(), Refused>) -> io::Result<()> {
     say(rt, text)?;
     match checked {
-        Checked::Passed => say(rt, b"0"),
-        Checked::Refused(refusal, row) => {
-            number(rt, refusals::number_of(refusal))?;
+        Ok(()) => say(rt, b"0"),
+        Err(refused) => {
+            number(rt, refusals::number_of(refused.refusal))?;
             say(rt, b" at ")?;
-            number(rt, row)
+            number(rt, refused.place)
         }
     }
 }
 
 // A refusal of the record or of a row's fields.
-fn of_fields(checked: Checked) -> Checked {
-    let Checked::Refused(refusal, row) = checked else {
-        return checked;
-    };
-    match refusals::number_of(refusal) {
-        5 | 6 | 22 => checked,
-        _ => Checked::Passed,
+fn of_fields(checked: Result<(), Refused>) -> Result<(), Refused> {
+    match checked {
+        Err(
+            Refused {
+                refusal: Refusal::WrongRecord | Refusal::UnknownKind | Refusal::WrongSide,
+                ..
+            },
+        ) => checked,
+        _ => Ok(()),
     }
 }
 

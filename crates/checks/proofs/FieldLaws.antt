@@ -1,7 +1,7 @@
 -- A row's fields, as the code meets them; and the loop of `refuse`: the first wrong field from the refused row on, else that row.
--- The rows that are left fall.
+use Rattle.std.specs.Prelude.{Ok, Err}
 use Prim.Native.Nat.{ℕ, ◌+◌, ◌*◌, ◌≤◌, ◌<◌}
-use mathlib.Core.Path.{◌≡◌, ◌∙◌}
+use mathlib.Core.Path.{◌≡◌, sym, ◌∙◌}
 use mathlib.Core.Bool.{Bool, true, false, cond, not}
 use mathlib.Core.List.{List, map}
 use lib.ListN.{length, get_or}
@@ -11,14 +11,15 @@ use Rattle.kinds.specs.declared.Kind.{Kind}
 use Rattle.kinds.specs.Kinds.{kinds, entry, is_kind, side_fits}
 use Rattle.kinds.specs.Steps.{numbers, side_below}
 use Rattle.kinds.proofs.Numbers.{entry_sides, entry_items}
+use Rattle.refusals.specs.declared.Refused.{Refused}
 use Rattle.refusals.specs.declared.Refusal.TheVariants.{UnknownKind, WrongSide, WrongEnd, TooDeep}
-use Rattle.checks.specs.declared.Checked.TheVariants.{Passed, Refused}
-use Rattle.checks.specs.Checks.{fields_at}
+use Rattle.refusals.specs.Refusals.{refused_at}
+use Rattle.checks.specs.Checks.{Checked, passed, fields_at}
 use Rattle.checks.specs.Steps.{RowRead, refused_of}
 use Rattle.checks.proofs.Rows.{Checking, checking_start, checking_done, checking_stop, checking_next}
 
 module _ (rows : List ℕ) (names i k : ℕ) (e : k ≡ kind_at rows i) where
-  pub unknown_told : 66 ≤ k → fields_at rows names i ≡ Refused UnknownKind i
+  pub unknown_told : 66 ≤ k → fields_at rows names i ≡ refused_at UnknownKind i
   unfolding fields_at is_kind
   unknown_told u = rw (← e, le-ltb k 66 u)
 
@@ -28,35 +29,44 @@ module _ (rows : List ℕ) (names i k : ℕ) (e : k ≡ kind_at rows i) where
 pub side_told : (rows : List ℕ) (names i : ℕ) (n : Kind)
     → kind_at rows i < 66
     → side_below n.sides names (side_at rows i) ≡ side_fits (entry (kind_at rows i)).sides names (side_at rows i)
-    → fields_at rows names i ≡ cond (side_below n.sides names (side_at rows i)) Passed (Refused WrongSide i)
+    → fields_at rows names i ≡ cond (side_below n.sides names (side_at rows i)) passed (refused_at WrongSide i)
 unfolding fields_at is_kind
 side_told rows names i n u t = rw (lt-ltb (kind_at rows i) 66 u, t)
 
--- the loop has come to row i
+-- what `check_fields` answers of row i
+module _ (rows : List ℕ) (names i k : ℕ) (e : k ≡ kind_at rows i) where
+  pub fields_unknown : 66 ≤ k → refused_at UnknownKind i ≡ fields_at rows names i
+  fields_unknown u = sym (unknown_told rows names i k e u)
+
+  module _ (entries : List Kind) (d : Kind) (side : ℕ) (r : Bool) (u : k < 66) (t : entries ≡ map numbers kinds) (s : side ≡ side_at rows i) (q : r ≡ side_below (get_or entries k d).sides names side) where
+    told : fields_at rows names i ≡ cond r passed (refused_at WrongSide i)
+    told = side_told rows names i (get_or entries k d) (rw (← e) u) (rw (← e) (entry_sides entries k d t u names (side_at rows i))) ∙ rw (← s, ← q)
+
+    pub fields_side : not r ≡ true → refused_at WrongSide i ≡ fields_at rows names i
+    fields_side n = sym (told ∙ rw (not-true r n))
+
+    pub fields_right : not r ≡ false → passed ≡ fields_at rows names i
+    fields_right n = sym (told ∙ rw (not-false r n))
+
+pub ruleset fields_told = (fields_unknown, fields_side, fields_right)
+
+-- the loop of `refuse` has come to row i
 module _ (rows : List ℕ) (names count row i : ℕ) (w : Checking (fields_at rows names) count row i) where
-  module _ (h : i < count) (k : ℕ) (e : k ≡ kind_at rows i) where
-    pub refuse_unknown : (deep : Bool) → 66 ≤ k → Refused UnknownKind i ≡ refused_of rows count names row deep
+  module _ (h : i < count) (c : Checked) (t : c ≡ fields_at rows names i) where
+    pub refuse_found : (deep : Bool) (e : Refused) → c ≡ Err e → Err e ≡ refused_of rows count names row deep
     unfolding refused_of
-    refuse_unknown deep u = rw (checking_stop w h UnknownKind i (unknown_told rows names i k e u))
+    refuse_found deep e q = rw (checking_stop w h e.refusal e.place (sym t ∙ q))
 
-    module _ (entries : List Kind) (d : Kind) (side : ℕ) (r : Bool) (u : k < 66) (t : entries ≡ map numbers kinds) (s : side ≡ side_at rows i) (q : r ≡ side_below (get_or entries k d).sides names side) where
-      told : fields_at rows names i ≡ cond r Passed (Refused WrongSide i)
-      told = side_told rows names i (get_or entries k d) (rw (← e) u) (rw (← e) (entry_sides entries k d t u names (side_at rows i))) ∙ rw (← s, ← q)
-
-      pub refuse_side : (deep : Bool) → not r ≡ true → Refused WrongSide i ≡ refused_of rows count names row deep
-      unfolding refused_of
-      refuse_side deep n = rw (checking_stop w h WrongSide i (told ∙ rw (not-true r n)))
-
-      pub refuse_next : not r ≡ false → Checking (fields_at rows names) count row (i + 1)
-      refuse_next n = checking_next w h (told ∙ rw (not-false r n))
+    pub refuse_next : (u : Unit {0}) → c ≡ Ok u → Checking (fields_at rows names) count row (i + 1)
+    refuse_next u q = checking_next w h (sym t ∙ q)
 
   module _ (h : count ≤ i) (deep : Bool) where
-    pub refuse_deep : deep ≡ true → Refused TooDeep row ≡ refused_of rows count names row deep
+    pub refuse_deep : deep ≡ true → refused_at TooDeep row ≡ refused_of rows count names row deep
     unfolding refused_of
     refuse_deep y = rw (y, checking_done w h)
 
-    pub refuse_end : deep ≡ false → Refused WrongEnd row ≡ refused_of rows count names row deep
+    pub refuse_end : deep ≡ false → refused_at WrongEnd row ≡ refused_of rows count names row deep
     unfolding refused_of
     refuse_end n = rw (n, checking_done w h)
 
-pub ruleset refusing = (checking_start, refuse_unknown, refuse_side, refuse_next, refuse_deep, refuse_end)
+pub ruleset refusing = (checking_start, refuse_found, refuse_next, refuse_deep, refuse_end)

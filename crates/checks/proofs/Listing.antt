@@ -6,7 +6,8 @@ use mathlib.Core.List.{List, [], ◌∷◌}
 use Rattle.table.specs.Rows.{Forest, nil, node, tree, tree_by}
 use Rattle.table.specs.Fold.{fold}
 use Rattle.kinds.specs.Kinds.{kinds, entry, is_kind, in_class, of_class, class_number, side_fits, takes, once, many, fits}
-use Rattle.checks.specs.declared.Checked.TheVariants.{Passed, Refused}
+use Rattle.refusals.specs.Refusals.{refused_at}
+use Rattle.checks.specs.Checks.{passed}
 use Rattle.refusals.specs.declared.Refusal.TheVariants.{WrongRecord, UnknownKind, WrongSide, WrongEnd, WrongChildren}
 use Rattle.checks.specs.Checks.{holds, when_held, first_from, fields_at, fields_of, ends_before, above, enclosing, end_fits, depth_at, ends_at, kind_alone, children_at, root_at, children_of, checked_rows}
 
@@ -36,11 +37,11 @@ spelt =
 
 pub record Listing : Type 0 where
   pub tree : tree rows 0 9 ≡ spelt
-  pub fields : fields_of rows 9 2 ≡ Passed
-  pub children : children_of rows 9 ≡ Passed
-  pub one_name : fields_of rows 9 1 ≡ Refused WrongSide 5
-  pub checked : checked_rows rows 9 2 ≡ Passed
-  pub short : checked_rows rows 10 2 ≡ Refused WrongRecord 0
+  pub fields : fields_of rows 9 2 ≡ passed
+  pub children : children_of rows 9 ≡ passed
+  pub one_name : fields_of rows 9 1 ≡ refused_at WrongSide 5
+  pub checked : checked_rows rows 9 2 ≡ passed
+  pub short : checked_rows rows 10 2 ≡ refused_at WrongRecord 0
 
 pub listing : Listing
 unfolding tree tree_by fold kinds entry is_kind in_class of_class class_number side_fits takes once many fits holds when_held first_from fields_at ends_before above enclosing end_fits depth_at ends_at kind_alone children_at root_at checked_rows
@@ -52,13 +53,13 @@ plain kind end more = kind ∷ 0 ∷ 0 ∷ 0 ∷ end ∷ more
 
 -- "fields, ends and depth, children, each in row order": a block, kind 20, with an `if`, kind 13, or a null, 38, and a literal, 40, in it; 66 is no kind
 pub record Precedence : Type 0 where
-  pub field_first : checked_rows (plain 20 4 (plain 13 2 (plain 66 3 []))) 3 1 ≡ Refused UnknownKind 2
-  pub end_second : checked_rows (plain 20 4 (plain 13 1 (plain 40 3 []))) 3 1 ≡ Refused WrongEnd 0
-  pub own_end : checked_rows (plain 20 3 (plain 13 1 (plain 40 3 []))) 3 1 ≡ Refused WrongEnd 1
-  pub past_container : checked_rows (plain 20 3 (plain 13 2 (plain 40 4 []))) 3 1 ≡ Refused WrongEnd 2
-  pub children_last : checked_rows (plain 20 3 (plain 13 2 (plain 40 3 []))) 3 1 ≡ Refused WrongChildren 0
-  pub missing_child : checked_rows (plain 20 3 (plain 13 2 (plain 38 3 []))) 3 1 ≡ Refused WrongChildren 1
-  pub no_statement : checked_rows (plain 40 1 []) 1 1 ≡ Refused WrongChildren 0
+  pub field_first : checked_rows (plain 20 4 (plain 13 2 (plain 66 3 []))) 3 1 ≡ refused_at UnknownKind 2
+  pub end_second : checked_rows (plain 20 4 (plain 13 1 (plain 40 3 []))) 3 1 ≡ refused_at WrongEnd 0
+  pub own_end : checked_rows (plain 20 3 (plain 13 1 (plain 40 3 []))) 3 1 ≡ refused_at WrongEnd 1
+  pub past_container : checked_rows (plain 20 3 (plain 13 2 (plain 40 4 []))) 3 1 ≡ refused_at WrongEnd 2
+  pub children_last : checked_rows (plain 20 3 (plain 13 2 (plain 40 3 []))) 3 1 ≡ refused_at WrongChildren 0
+  pub missing_child : checked_rows (plain 20 3 (plain 13 2 (plain 38 3 []))) 3 1 ≡ refused_at WrongChildren 1
+  pub no_statement : checked_rows (plain 40 1 []) 1 1 ≡ refused_at WrongChildren 0
 
 pub precedence : Precedence
 unfolding tree tree_by fold kinds entry is_kind in_class of_class class_number side_fits takes once many fits holds when_held first_from fields_at ends_before above enclosing end_fits depth_at ends_at kind_alone children_at root_at checked_rows

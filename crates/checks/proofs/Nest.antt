@@ -12,8 +12,9 @@ use lib.ListN.{length}
 use lib.Dec.{leb, ltb}
 use borrow.Author.Tests.{ltb-true, ltb-false, lt-ltb, le-ltb, leb-true, le-leb, eqb-true, eq-eqb}
 use Rattle.table.specs.Rows.{end_at, Nested}
-use Rattle.checks.specs.declared.Checked.{Checked}
-use Rattle.checks.specs.declared.Checked.TheVariants.{Passed, Refused}
+use Rattle.checks.specs.Checks.{Checked}
+use Rattle.refusals.specs.Refusals.{refused_at}
+use Rattle.checks.specs.Checks.{passed}
 use Rattle.refusals.specs.declared.Refusal.TheVariants.{WrongEnd, TooDeep}
 use Rattle.checks.specs.Checks.{when_held, ends_before, above, enclosing, end_fits, depth_at, ends_at, ends_of}
 use Rattle.checks.specs.Steps.{Held}
@@ -26,14 +27,14 @@ pub record RightEnd (rows : List ℕ) (count i : ℕ) : Type 0 where
   pub fits : end_fits count i (end_at rows i) (enclosing rows i) ≡ true
   pub shallow : depth_at rows i ≤ 100
 
-pub right_end : (rows : List ℕ) (count i : ℕ) → ends_at rows count i ≡ Passed → RightEnd rows count i
+pub right_end : (rows : List ℕ) (count i : ℕ) → ends_at rows count i ≡ passed → RightEnd rows count i
 unfolding ends_at
 right_end rows count i = go (end_fits count i (end_at rows i) (enclosing rows i)) (leb (depth_at rows i) 100) refl refl
   where
     go : (a b : Bool)
         → end_fits count i (end_at rows i) (enclosing rows i) ≡ a
         → leb (depth_at rows i) 100 ≡ b
-        → cond a (cond b Passed (Refused TooDeep i)) (Refused WrongEnd i) ≡ Passed
+        → cond a (cond b passed (refused_at TooDeep i)) (refused_at WrongEnd i) ≡ passed
         → RightEnd rows count i
     go true true p q e = record { fits = p; shallow = leb-true (depth_at rows i) 100 q }
     go true false p q e = never e
@@ -88,9 +89,9 @@ pub record RightEnds (rows : List ℕ) (count : ℕ) : Type 0 where
   pub root : end_at rows 0 ≡ count
   pub shallow : (i : ℕ) → i < count → depth_at rows i ≤ 100
 
-pub ends_passed : (rows : List ℕ) (count : ℕ) (r : Checked) → r ≡ ends_of rows count → r ≡ Passed → RightEnds rows count
+pub ends_passed : (rows : List ℕ) (count : ℕ) (r : Checked) → r ≡ ends_of rows count → r ≡ passed → RightEnds rows count
 ends_passed rows count r q p =
-    let e : ends_of rows count ≡ Passed = sym q ∙ p in
+    let e : ends_of rows count ≡ passed = sym q ∙ p in
     let h = passed_held rows count _ e in
     let right : (i : ℕ) → i < count → RightEnd rows count i = λ i l. right_end rows count i (all_pass (ends_at rows count) count (passed_found rows count _ e) i l) in
     record {
@@ -203,7 +204,7 @@ module _ (rows : List ℕ) (count : ℕ) (w : RightEnds rows count) where
       rw (lt-ltb (suc i) (end_at rows (suc i)) a, le-leb (end_at rows (suc i)) e l)
 
   -- ends that are right pass
-  pub ends_pass : ends_of rows count ≡ Passed
+  pub ends_pass : ends_of rows count ≡ passed
   unfolding when_held ends_at
   ends_pass =
       rw (holds_true rows count w.held)

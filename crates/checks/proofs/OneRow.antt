@@ -1,5 +1,6 @@
 -- A row by itself: what `right_end` answers, what that says of the row's fields, end and depth, and that a table whose first wrong row is
 -- refused is refused as `refuse` tells.
+use Rattle.std.specs.Prelude.{Ok, Err}
 use Prim.Native.Nat.{ℕ, suc, ◌+◌, ◌-◌, ◌≤◌, ◌<◌}
 use mathlib.Core.Path.{◌≡◌, refl, sym, ◌∙◌}
 use mathlib.Core.Bool.{Bool, true, false, cond, not, ◌&&◌}
@@ -12,8 +13,9 @@ use Rattle.kinds.specs.declared.Kind.{Kind}
 use Rattle.kinds.specs.Steps.{side_below}
 use Rattle.kinds.proofs.Below.{both_true}
 use Rattle.refusals.specs.declared.Refusal.TheVariants.{WrongSide, WrongEnd, TooDeep}
-use Rattle.checks.specs.declared.Checked.{Checked}
-use Rattle.checks.specs.declared.Checked.TheVariants.{Passed, Refused}
+use Rattle.checks.specs.Checks.{Checked}
+use Rattle.refusals.specs.Refusals.{refused_at}
+use Rattle.checks.specs.Checks.{passed}
 use Rattle.checks.specs.Checks.{and_then, first_from, when_held, fields_at, fields_of, enclosing, end_fits, depth_at, ends_at, ends_of, checked_rows}
 use Rattle.checks.specs.Steps.{Held, RowRead, end_or_zero, RowTold, end_refusal, refused_of, alone_at}
 use Rattle.checks.proofs.Rows.{Checking, checking_step, checking_stop, from_zero, checking_upto, both_pass}
@@ -44,7 +46,7 @@ pub ruleset end_answers = (end_low, end_high, end_side, end_right)
 
 -- the row is refused by itself; where its fields are right it is so for its depth, or for its end
 abbrev pub RefusedFor : List ℕ → ℕ → ℕ → ℕ → Bool → Type 0
-RefusedFor rows count names row deep = and_then (fields_at rows names row) (Refused (end_refusal deep) row) ≡ alone_at rows count names row
+RefusedFor rows count names row deep = and_then (fields_at rows names row) (refused_at (end_refusal deep) row) ≡ alone_at rows count names row
 
 pub unknown_refused : (rows : List ℕ) (count names row k : ℕ) → k ≡ kind_at rows row → 66 ≤ k → RefusedFor rows count names row false
 unfolding alone_at
@@ -67,11 +69,11 @@ module _ (rows : List ℕ) (count names row : ℕ) (numbers : Kind) (least most 
   unfolding end_or_zero between sided
   told = w.answer
 
-  fields_are : fields_at rows names row ≡ cond sided Passed (Refused WrongSide row)
+  fields_are : fields_at rows names row ≡ cond sided passed (refused_at WrongSide row)
   unfolding sided
   fields_are = side_told rows names row numbers w.read.known (w.read.sides names (side_at rows row))
 
-  row_is : alone_at rows count names row ≡ and_then (cond sided Passed (Refused WrongSide row)) (cond between (cond (ltb depth 100) Passed (Refused TooDeep row)) (Refused WrongEnd row))
+  row_is : alone_at rows count names row ≡ and_then (cond sided passed (refused_at WrongSide row)) (cond between (cond (ltb depth 100) passed (refused_at TooDeep row)) (refused_at WrongEnd row))
   unfolding alone_at ends_at between
   row_is = rw (fields_are, b.fits, b.deep)
 
@@ -94,7 +96,7 @@ module _ (rows : List ℕ) (count names row : ℕ) (numbers : Kind) (least most 
       go : (x y : Bool)
           → between ≡ x
           → r ≡ cond x (cond y (end_at rows row) 0) 0
-          → and_then (cond y Passed (Refused WrongSide row)) (Refused WrongEnd row) ≡ and_then (cond y Passed (Refused WrongSide row)) (cond x (cond (ltb depth 100) Passed (Refused TooDeep row)) (Refused WrongEnd row))
+          → and_then (cond y passed (refused_at WrongSide row)) (refused_at WrongEnd row) ≡ and_then (cond y passed (refused_at WrongSide row)) (cond x (cond (ltb depth 100) passed (refused_at TooDeep row)) (refused_at WrongEnd row))
       go x false q t = refl
       go false true q t = refl
       go true true q t = absurd (omega (arith, b.some, leb-true least (end_at rows row) (both_true (leb least (end_at rows row)) (leb (end_at rows row) most) q).0))
@@ -103,7 +105,7 @@ module _ (rows : List ℕ) (count names row : ℕ) (numbers : Kind) (least most 
     pub row_deep : 100 ≤ depth → RefusedFor rows count names row true
     row_deep h = rw (fields_are, row_is, (both_right n).0, (both_right n).1, le-ltb depth 100 h)
 
-    pub row_right : depth < 100 → alone_at rows count names row ≡ Passed
+    pub row_right : depth < 100 → alone_at rows count names row ≡ passed
     row_right h = rw (row_is, (both_right n).0, (both_right n).1, lt-ltb depth 100 h)
 
 -- the rows before row n are right by themselves
@@ -116,10 +118,10 @@ module _ (rows : List ℕ) (count names : ℕ) (h : Held rows count) where
   unfolding when_held
   ends_all = rw (holds_true rows count h)
 
-  module _ (n : ℕ) (l : n < count) (passed : (i : ℕ) → i < n → alone_at rows count names i ≡ Passed) where
-    both_at : (i : ℕ) → i < n → (fields_at rows names i ≡ Passed) × (ends_at rows count i ≡ Passed)
+  module _ (n : ℕ) (l : n < count) (before : (i : ℕ) → i < n → alone_at rows count names i ≡ passed) where
+    both_at : (i : ℕ) → i < n → (fields_at rows names i ≡ passed) × (ends_at rows count i ≡ passed)
     unfolding alone_at
-    both_at i b = both_pass (fields_at rows names i) (ends_at rows count i) (passed i b)
+    both_at i b = both_pass (fields_at rows names i) (ends_at rows count i) (before i b)
 
     fields_from : Checking (fields_at rows names) count 0 n
     fields_from = checking_upto (fields_at rows names) count n (omega arith) (λ i b. (both_at i b).0)
@@ -139,5 +141,5 @@ module _ (rows : List ℕ) (count names : ℕ) (h : Held rows count) where
     refused_checked deep out t o = go (fields_at rows names n) refl
       where
         go : (f : Checked) → fields_at rows names n ≡ f → out ≡ checked_rows rows count names
-        go Passed p = let q : ends_at rows count n ≡ Refused (end_refusal deep) n = sym (rw p at t) in o ∙ rw (fields_left, ends_left, q)
-        go (Refused f r) p = let q : first_from (fields_at rows names) (count - n) n ≡ Refused f r = sym fields_from.same ∙ checking_stop fields_from l f r p in o ∙ rw (fields_left, q)
+        go (Ok u) p = let q : ends_at rows count n ≡ refused_at (end_refusal deep) n = sym (rw p at t) in o ∙ rw (fields_left, ends_left, q)
+        go (Err e) p = let q : first_from (fields_at rows names) (count - n) n ≡ Err e = sym fields_from.same ∙ checking_stop fields_from l e.refusal e.place p in o ∙ rw (fields_left, q)

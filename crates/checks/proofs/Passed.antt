@@ -11,8 +11,9 @@ use Rattle.kinds.specs.Kinds.{S, name_number, entry, is_kind, in_class, side_fit
 use Rattle.kinds.proofs.Below.{both_true}
 use Rattle.refusals.specs.declared.Refusal.{Refusal}
 use Rattle.refusals.specs.declared.Refusal.TheVariants.{UnknownKind, WrongSide, WrongChildren}
-use Rattle.checks.specs.declared.Checked.{Checked}
-use Rattle.checks.specs.declared.Checked.TheVariants.{Passed, Refused}
+use Rattle.checks.specs.Checks.{Checked}
+use Rattle.refusals.specs.Refusals.{refused_at}
+use Rattle.checks.specs.Checks.{passed}
 use Rattle.checks.specs.Steps.{Held}
 use Rattle.checks.specs.Checks.{when_held, first_from, fields_at, fields_of, ends_of, children_fit, children_at, root_at, children_of, checked_rows}
 use Rattle.checks.proofs.Rows.{never, both_pass, all_pass, pass_all}
@@ -20,7 +21,7 @@ use Rattle.checks.proofs.Room.{holds_true, passed_held, passed_found}
 use Rattle.checks.proofs.Nest.{RightEnds, ends_passed, ends_pass}
 
 -- a test that is refused or passes, and passes
-test_passed : (b : Bool) (refusal : Refusal) (row : ℕ) → cond b Passed (Refused refusal row) ≡ Passed → b ≡ true
+test_passed : (b : Bool) (refusal : Refusal) (row : ℕ) → cond b passed (refused_at refusal row) ≡ passed → b ≡ true
 test_passed true refusal row e = refl
 test_passed false refusal row e = never e
 
@@ -29,25 +30,25 @@ pub record RightFields (rows : List ℕ) (count names : ℕ) : Type 0 where
   pub known : (i : ℕ) → i < count → kind_at rows i < 66
   pub sides : (i : ℕ) → i < count → side_fits (entry (kind_at rows i)).sides names (side_at rows i) ≡ true
 
-pub fields_at_lem : (rows : List ℕ) (names i : ℕ) → fields_at rows names i ≡ Passed → (kind_at rows i < 66) × (side_fits (entry (kind_at rows i)).sides names (side_at rows i) ≡ true)
+pub fields_at_lem : (rows : List ℕ) (names i : ℕ) → fields_at rows names i ≡ passed → (kind_at rows i < 66) × (side_fits (entry (kind_at rows i)).sides names (side_at rows i) ≡ true)
 unfolding fields_at is_kind
 fields_at_lem rows names i e = go (ltb (kind_at rows i) 66) refl e
   where
     go : (b : Bool)
         → ltb (kind_at rows i) 66 ≡ b
-        → cond b (cond (side_fits (entry (kind_at rows i)).sides names (side_at rows i)) Passed (Refused WrongSide i)) (Refused UnknownKind i) ≡ Passed
+        → cond b (cond (side_fits (entry (kind_at rows i)).sides names (side_at rows i)) passed (refused_at WrongSide i)) (refused_at UnknownKind i) ≡ passed
         → (kind_at rows i < 66) × (side_fits (entry (kind_at rows i)).sides names (side_at rows i) ≡ true)
     go true q e = (ltb-true (kind_at rows i) 66 q, test_passed _ WrongSide i e)
     go false q e = never e
 
-pub fields_passed : (rows : List ℕ) (count names : ℕ) (r : Checked) → r ≡ fields_of rows count names → r ≡ Passed → RightFields rows count names
+pub fields_passed : (rows : List ℕ) (count names : ℕ) (r : Checked) → r ≡ fields_of rows count names → r ≡ passed → RightFields rows count names
 fields_passed rows count names r q p =
-    let e : fields_of rows count names ≡ Passed = sym q ∙ p in
+    let e : fields_of rows count names ≡ passed = sym q ∙ p in
     let right : (i : ℕ) → i < count → (kind_at rows i < 66) × (side_fits (entry (kind_at rows i)).sides names (side_at rows i) ≡ true) =
     λ i h. fields_at_lem rows names i (all_pass (fields_at rows names) count (passed_found rows count _ e) i h) in
     record { held = passed_held rows count _ e; known = λ i h. (right i h).0; sides = λ i h. (right i h).1 }
 
-pub fields_pass : (rows : List ℕ) (count names : ℕ) → RightFields rows count names → fields_of rows count names ≡ Passed
+pub fields_pass : (rows : List ℕ) (count names : ℕ) → RightFields rows count names → fields_of rows count names ≡ passed
 unfolding when_held fields_at is_kind
 fields_pass rows count names w = rw (holds_true rows count w.held) (pass_all (fields_at rows names) count (λ i h. rw (lt-ltb (kind_at rows i) 66 (w.known i h), w.sides i h)))
 
@@ -62,11 +63,11 @@ pub record RightChildren (rows : List ℕ) (count : ℕ) : Type 0 where
   pub known : (i : ℕ) → i < count → is_kind (kind_at rows i) ≡ true
   pub fitting : (i : ℕ) → i < count → children_fit rows i ≡ true
 
-children_at_lem : (rows : List ℕ) (i : ℕ) → children_at rows i ≡ Passed → (is_kind (kind_at rows i) ≡ true) × (children_fit rows i ≡ true)
+children_at_lem : (rows : List ℕ) (i : ℕ) → children_at rows i ≡ passed → (is_kind (kind_at rows i) ≡ true) × (children_fit rows i ≡ true)
 unfolding children_at
 children_at_lem rows i e = both_true (is_kind (kind_at rows i)) _ (test_passed _ WrongChildren i e)
 
-pub children_passed : (rows : List ℕ) (count : ℕ) (r : Checked) → r ≡ children_of rows count → r ≡ Passed → RightChildren rows count
+pub children_passed : (rows : List ℕ) (count : ℕ) (r : Checked) → r ≡ children_of rows count → r ≡ passed → RightChildren rows count
 unfolding root_at
 children_passed rows count r q p =
     let both = both_pass (ends_of rows count) _ (sym q ∙ p) in
@@ -78,14 +79,14 @@ children_passed rows count r q p =
       fitting = λ i h. (children_at_lem rows i (all_pass (children_at rows) count found.1 i h)).1;
     }
 
-pub children_pass : (rows : List ℕ) (count : ℕ) → RightChildren rows count → children_of rows count ≡ Passed
+pub children_pass : (rows : List ℕ) (count : ℕ) → RightChildren rows count → children_of rows count ≡ passed
 unfolding root_at children_at
 children_pass rows count w = rw (ends_pass rows count w.ends, w.statement) (pass_all (children_at rows) count (λ i h. rw (w.known i h, w.fitting i h)))
 
 -- the whole check
 module _ (rows : List ℕ) (count names : ℕ) where
-  module _ (r : Checked) (q : r ≡ checked_rows rows count names) (p : r ≡ Passed) where
-    both_passed : (fields_of rows count names ≡ Passed) × (children_of rows count ≡ Passed)
+  module _ (r : Checked) (q : r ≡ checked_rows rows count names) (p : r ≡ passed) where
+    both_passed : (fields_of rows count names ≡ passed) × (children_of rows count ≡ passed)
     unfolding checked_rows
     both_passed = both_pass (fields_of rows count names) (children_of rows count) (sym q ∙ p)
 
@@ -97,5 +98,5 @@ module _ (rows : List ℕ) (count names : ℕ) where
   unfolding checked_rows
   checked_is w = rw (fields_pass rows count names w)
 
-  pub checked_pass : RightFields rows count names → RightChildren rows count → checked_rows rows count names ≡ Passed
+  pub checked_pass : RightFields rows count names → RightChildren rows count → checked_rows rows count names ≡ passed
   checked_pass f c = checked_is f ∙ children_pass rows count c

@@ -7,8 +7,9 @@ use lib.ListN.{length}
 use lib.Dec.{leb}
 use borrow.Author.Tests.{leb-true, le-leb, lt-leb}
 use Rattle.kinds.proofs.Below.{both_true}
-use Rattle.checks.specs.declared.Checked.{Checked}
-use Rattle.checks.specs.declared.Checked.TheVariants.{Passed, Refused}
+use Rattle.checks.specs.Checks.{Checked}
+use Rattle.refusals.specs.Refusals.{refused_at}
+use Rattle.checks.specs.Checks.{passed}
 use Rattle.refusals.specs.declared.Refusal.TheVariants.{WrongRecord}
 use Rattle.checks.specs.Checks.{holds, when_held}
 use Rattle.checks.specs.Steps.{Held}
@@ -41,18 +42,18 @@ module _ (rows : List ℕ) (count : ℕ) where
 pub ruleset answers = (holds_none, holds_many, holds_room)
 
 -- a check that passed read a table that holds its rows, and found nothing
-module _ (rows : List ℕ) (count : ℕ) (found : Checked) (e : when_held rows count found ≡ Passed) where
+module _ (rows : List ℕ) (count : ℕ) (found : Checked) (e : when_held rows count found ≡ passed) where
   told : holds rows count ≡ true
   unfolding when_held
   told = go (holds rows count) e
     where
-      go : (b : Bool) → cond b found (Refused WrongRecord 0) ≡ Passed → b ≡ true
+      go : (b : Bool) → cond b found (refused_at WrongRecord 0) ≡ passed → b ≡ true
       go true p = refl
       go false p = never p
 
   pub passed_held : Held rows count
   passed_held = held_facts_lem rows count told
 
-  pub passed_found : found ≡ Passed
+  pub passed_found : found ≡ passed
   unfolding when_held
   passed_found = rw told at e

@@ -1,5 +1,6 @@
 -- Two tables that hold the same rows are checked alike, whatever stands after the rows: each test reads rows up to the last one alone. By induction on
 -- the rows left.
+use Rattle.std.specs.Prelude.{Ok, Err}
 use Prim.Native.Nat.{ℕ, zero, suc, ◌+◌, ◌*◌, ◌≤◌, ◌<◌}
 use mathlib.Core.Path.{◌≡◌, refl, ap, ◌∙◌}
 use mathlib.Core.List.{List}
@@ -9,8 +10,7 @@ use borrow.Author.Tests.{le-leb}
 use Rattle.table.specs.Rows.{kind_at, end_at, Nested}
 use Rattle.table.proofs.Ranges.{later, children, ends_within}
 use Rattle.table.proofs.Same.{tree_same}
-use Rattle.checks.specs.declared.Checked.{Checked}
-use Rattle.checks.specs.declared.Checked.TheVariants.{Passed, Refused}
+use Rattle.checks.specs.Checks.{Checked}
 use Rattle.checks.specs.Checks.{holds, and_then, first_from, when_held, ends_before, enclosing, depth_at, ends_at, ends_of, children_at, root_at, children_of}
 use Rattle.checks.proofs.Nest.{ends_passed}
 
@@ -64,7 +64,7 @@ module _ (rows others : List ℕ) (count : ℕ) (h : 5 * count ≤ length rows) 
   children_same = ap (λ (c : Checked). and_then c (and_then (root_at rows) (first_from (children_at rows) count 0))) ends_same ∙ go (ends_of others count) refl
     where
       go : (c : Checked) → ends_of others count ≡ c → and_then c (and_then (root_at rows) (first_from (children_at rows) count 0)) ≡ and_then c (and_then (root_at others) (first_from (children_at others) count 0))
-      go (Refused refusal row) e = refl
-      go Passed e =
+      go (Err r) e = refl
+      go (Ok u) e =
           let w = ends_passed rows count (ends_of rows count) refl (ends_same ∙ e) in
           rw (root_same w.held.some, first_same (children_at rows) (children_at others) count 0 (λ i a b. child_same w.nested i (omega arith)))

@@ -13,8 +13,8 @@ use Rattle.table.specs.Rows.{kind_at, end_at, Nested}
 use Rattle.kinds.specs.declared.Kind.{Kind}
 use Rattle.kinds.specs.Kinds.{kinds, entry}
 use Rattle.kinds.specs.Steps.{numbers, items_number}
-use Rattle.checks.specs.declared.Checked.{Checked}
-use Rattle.checks.specs.declared.Checked.TheVariants.{Passed}
+use Rattle.checks.specs.Checks.{Checked}
+use Rattle.checks.specs.Checks.{passed}
 use Rattle.checks.specs.declared.Progress.{Progress}
 use Rattle.checks.specs.Checks.{fields_at, ends_before, above, enclosing, end_fits, depth_at, ends_at, checked_rows}
 use Rattle.checks.specs.Steps.{Held, Settles, Takes, Closes, PlacesRow, opens, ends_here, Enters, RowRead, RowTold, refused_of, root_found, alone_at, Started, Rooms, RootPlaced}
@@ -28,9 +28,9 @@ use Rattle.checks.proofs.Known.{Opens, Known, close_known, take_known, open_know
 
 -- the rows before row n are right by themselves
 abbrev pub RightBefore : List ℕ → ℕ → ℕ → ℕ → Type 0
-RightBefore rows count names n = (i : ℕ) → i < n → alone_at rows count names i ≡ Passed
+RightBefore rows count names n = (i : ℕ) → i < n → alone_at rows count names i ≡ passed
 
-right_ends : (rows : List ℕ) (count names i : ℕ) → alone_at rows count names i ≡ Passed → RightEnd rows count i
+right_ends : (rows : List ℕ) (count names i : ℕ) → alone_at rows count names i ≡ passed → RightEnd rows count i
 unfolding alone_at
 right_ends rows count names i p = right_end rows count i (both_pass (fields_at rows names i) (ends_at rows count i) p).1
 

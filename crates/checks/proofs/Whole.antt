@@ -13,8 +13,9 @@ use Rattle.kinds.specs.declared.Kind.{Kind}
 use Rattle.kinds.specs.Kinds.{S, kinds, is_kind, in_class}
 use Rattle.kinds.specs.Steps.{numbers}
 use Rattle.refusals.specs.declared.Refusal.TheVariants.{WrongChildren, WrongRecord}
-use Rattle.checks.specs.declared.Checked.{Checked}
-use Rattle.checks.specs.declared.Checked.TheVariants.{Passed, Refused}
+use Rattle.checks.specs.Checks.{Checked}
+use Rattle.refusals.specs.Refusals.{refused_at}
+use Rattle.checks.specs.Checks.{passed}
 use Rattle.checks.specs.Checks.{holds, and_then, first_from, when_held, fields_at, fields_of, ends_before, above, enclosing, end_fits, ends_at, ends_of, children_fit, children_at, root_at, checked_rows}
 use Rattle.checks.specs.Steps.{Held, RowRead, RowTold, refused_of, root_found, alone_at, Started}
 use Rattle.checks.proofs.Rows.{checking_stop, from_zero, checking_upto, both_pass, pass_all}
@@ -33,36 +34,36 @@ module _ (rows : List ℕ) (count names : ℕ) (ends left own : List ℕ) (row d
   seen_all : row ≡ count
   seen_all = walking_end rows count names start ends left own row depth first w z
 
-  both_right : (i : ℕ) → i < count → (fields_at rows names i ≡ Passed) × (ends_at rows count i ≡ Passed)
+  both_right : (i : ℕ) → i < count → (fields_at rows names i ≡ passed) × (ends_at rows count i ≡ passed)
   unfolding alone_at
   both_right i h = both_pass (fields_at rows names i) (ends_at rows count i) (w.right i (omega (arith, seen_all)))
 
-  fields_right : fields_of rows count names ≡ Passed
+  fields_right : fields_of rows count names ≡ passed
   fields_right = fields_all rows count names w.held ∙ pass_all (fields_at rows names) count (λ i h. (both_right i h).0)
 
-  ends_right : ends_of rows count ≡ Passed
+  ends_right : ends_of rows count ≡ passed
   ends_right = ends_all rows count names w.held ∙ pass_all (ends_at rows count) count (λ i h. (both_right i h).1)
 
   all_known : Known rows (root_found count (kind_at rows 0)) ends left own 0 row row first
-  all_known = let e : depth ≡ 0 = omega arith in rw e at (w.known (ends_passed rows count Passed (sym ends_right) refl).nested)
+  all_known = let e : depth ≡ 0 = omega arith in rw e at (w.known (ends_passed rows count passed (sym ends_right) refl).nested)
 
-  child_told : (i : ℕ) → i < count → children_at rows i ≡ cond (children_fit rows i) Passed (Refused WrongChildren i)
+  child_told : (i : ℕ) → i < count → children_at rows i ≡ cond (children_fit rows i) passed (refused_at WrongChildren i)
   unfolding children_at is_kind
   child_told i h = rw (lt-ltb (kind_at rows i) 66 (fields_at_lem rows names i (both_right i h).0).0)
 
-  right_before : (i : ℕ) → i < count → i < first → children_at rows i ≡ Passed
+  right_before : (i : ℕ) → i < count → i < first → children_at rows i ≡ passed
   right_before i a b = child_told i a ∙ go (all_known.seen i (omega (arith, seen_all)))
     where
-      go : Seen rows first own 0 i → cond (children_fit rows i) Passed (Refused WrongChildren i) ≡ Passed
+      go : Seen rows first own 0 i → cond (children_fit rows i) passed (refused_at WrongChildren i) ≡ passed
       go (still j l e) = absurd (omega arith)
       go (right e) = rw e
       go (later l) = absurd (omega arith)
 
-  pub walking_found : first < count → Refused WrongChildren first ≡ checked_rows rows count names
+  pub walking_found : first < count → refused_at WrongChildren first ≡ checked_rows rows count names
   unfolding root_at root_found checked_rows
   walking_found h = rw (fields_right, ends_right) (go (in_class S (kind_at rows 0)) refl)
     where
-      go : (b : Bool) → in_class S (kind_at rows 0) ≡ b → Refused WrongChildren first ≡ and_then (cond (in_class S (kind_at rows 0)) Passed (Refused WrongChildren 0)) (first_from (children_at rows) count 0)
+      go : (b : Bool) → in_class S (kind_at rows 0) ≡ b → refused_at WrongChildren first ≡ and_then (cond (in_class S (kind_at rows 0)) passed (refused_at WrongChildren 0)) (first_from (children_at rows) count 0)
       go true q =
           let a : start ≡ count = rw q in
           rw q
@@ -71,11 +72,11 @@ module _ (rows : List ℕ) (count names : ℕ) (ends left own : List ℕ) (row d
           ∙ checking_stop (checking_upto (children_at rows) count first (omega arith) (λ i l. right_before i (omega arith) l)) h WrongChildren first (child_told first h ∙ rw (all_known.refused (omega arith)))))
       go false q = let a : start ≡ 0 = rw q in let b : first ≡ 0 = omega (arith, all_known.low) in rw (q, b)
 
-  pub walking_passed : count ≤ first → Passed ≡ checked_rows rows count names
+  pub walking_passed : count ≤ first → passed ≡ checked_rows rows count names
   unfolding root_at root_found checked_rows
   walking_passed h = rw (fields_right, ends_right) (go (in_class S (kind_at rows 0)) refl)
     where
-      go : (b : Bool) → in_class S (kind_at rows 0) ≡ b → Passed ≡ and_then (cond (in_class S (kind_at rows 0)) Passed (Refused WrongChildren 0)) (first_from (children_at rows) count 0)
+      go : (b : Bool) → in_class S (kind_at rows 0) ≡ b → passed ≡ and_then (cond (in_class S (kind_at rows 0)) passed (refused_at WrongChildren 0)) (first_from (children_at rows) count 0)
       go true q = rw q (sym (pass_all (children_at rows) count (λ i l. right_before i l (omega arith))))
       go false q = let a : start ≡ 0 = rw q in absurd (omega (arith, all_known.low, w.held.some))
 
@@ -107,7 +108,7 @@ unfolding end_fits enclosing ends_before above
 root_bounds rows count s = record { some = s; fits = equal_both (end_at rows 0) count; deep = root_depth rows }
 
 module _ (rows : List ℕ) (count names : ℕ) (b : Bool) (e : b ≡ holds rows count) where
-  pub root_unheld : not b ≡ true → Refused WrongRecord 0 ≡ checked_rows rows count names
+  pub root_unheld : not b ≡ true → refused_at WrongRecord 0 ≡ checked_rows rows count names
   unfolding when_held checked_rows
   root_unheld n = rw (← e, not-true b n)
 

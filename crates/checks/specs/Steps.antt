@@ -7,8 +7,9 @@ use Rattle.kinds.specs.Steps.{items_number, side_below}
 use Rattle.kinds.proofs.Steps.{Left}
 use Rattle.refusals.specs.declared.Refusal.{Refusal}
 use Rattle.refusals.specs.declared.Refusal.TheVariants.{WrongEnd, TooDeep}
-use Rattle.checks.specs.declared.Checked.{Checked}
-use Rattle.checks.specs.declared.Checked.TheVariants.{Passed, Refused}
+use Rattle.checks.specs.Checks.{Checked}
+use Rattle.refusals.specs.Refusals.{refused_at}
+use Rattle.checks.specs.Checks.{passed}
 use Rattle.checks.specs.declared.Progress.{Progress}
 use Rattle.checks.specs.Checks.{and_then, first_from, fields_at, ends_at}
 
@@ -105,7 +106,7 @@ end_refusal false = WrongEnd
 
 -- what `refuse` tells of a row that is wrong by itself: the first wrong field from it on, and where there is none the row
 unfoldable pub refused_of : List ℕ → ℕ → ℕ → ℕ → Bool → Checked
-refused_of rows count names row deep = and_then (first_from (fields_at rows names) (count - row) row) (Refused (end_refusal deep) row)
+refused_of rows count names row deep = and_then (first_from (fields_at rows names) (count - row) row) (refused_at (end_refusal deep) row)
 
 -- the first row found before any is looked at: none, which is the count, or row 0 if its kind is no statement's
 unfoldable pub root_found : ℕ → ℕ → ℕ
@@ -118,7 +119,7 @@ alone_at rows count names i = and_then (fields_at rows names i) (ends_at rows co
 -- row 0 is right by itself; these are its kind's items, and this is the first row found so far
 pub record Started (rows : List ℕ) (count names items start : ℕ) : Type 0 where
   pub held : Held rows count
-  pub right : alone_at rows count names 0 ≡ Passed
+  pub right : alone_at rows count names 0 ≡ passed
   pub children : items ≡ items_number (entry (kind_at rows 0)).children
   pub begin : start ≡ root_found count (kind_at rows 0)
 

@@ -5,21 +5,14 @@
 // holds no rows, those that end with it are closed.
 #![tactic(auto)]
 
-ghost use Rattle.std.specs.Prelude.{◌≡◌, List, [], ◌<◌, ◌≤◌};
+ghost use Rattle.std.specs.Prelude.{◌≡◌, List, [], ◌<◌, ◌≤◌, ◌+◌, ◌*◌, length};
 ghost use Rattle.kinds.specs.Kinds.{Item, fits};
 ghost use Rattle.kinds.specs.Steps.{items_number};
-ghost use Rattle.checks.specs.Checks.{holds, checked_rows};
+ghost use Rattle.checks.specs.Checks.{holds, fields_at, checked_rows};
 ghost use Rattle.checks.specs.Steps.{Held, lesser, Settles, Takes, Closes, PlacesRow, CanEnter, Enters, RowRead, RowTold, refused_of, root_found, Started, RootPlaced};
 
 use kinds::Kind;
-use refusals::Refusal;
-
-// The first refusal, with its row; 0 where the table cannot hold its rows.
-#[derive(Clone, Copy)]
-pub enum Checked {
-    Passed,
-    Refused(Refusal, usize),
-}
+use refusals::{Refusal, Refused};
 
 // How many rows are open, and the first row found so far whose children do not fit, the count of rows if none is.
 #[derive(Clone, Copy)]
@@ -187,29 +180,45 @@ fn right_end(
     end
 }
 
+// The kind and the side number of row i.
+fn check_fields(rows: &[u32], names: usize, i: usize) -> Result<(), Refused>
+    requires { 5 * i + 4 < length rows.now }
+    ensures { result ≡ fields_at rows.now names i }
+{
+    let kind = table::kind_at(rows, i);
+    if 66 <= kind {
+        return Err(Refused {
+            refusal: Refusal::UnknownKind,
+            place: i,
+        });
+    }
+    if !kinds::side_fits(kinds::kinds()[kind], table::side_at(rows, i), names) {
+        return Err(Refused {
+            refusal: Refusal::WrongSide,
+            place: i,
+        });
+    }
+    Ok(())
+}
+
 // A row is wrong by itself, `deep` for its depth alone. Fields come before ends and depth: it is told for its end or depth only where no
 // row from it on has a wrong kind or side number.
-fn refuse(rows: &[u32], count: usize, names: usize, row: usize, deep: bool) -> Checked
+fn refuse(rows: &[u32], count: usize, names: usize, row: usize, deep: bool) -> Result<(), Refused>
     requires { Held rows.now count }
     ensures { result ≡ refused_of rows.now count names row deep }
 {
-    let entries = kinds::kinds();
-    let mut i = row;
-    while i < count {
-        let kind = table::kind_at(rows, i);
-        if 66 <= kind {
-            return Checked::Refused(Refusal::UnknownKind, i);
-        }
-        let entry = entries[kind];
-        if !kinds::side_fits(entry, table::side_at(rows, i), names) {
-            return Checked::Refused(Refusal::WrongSide, i);
-        }
-        i += 1;
+    for i in row..count {
+        check_fields(rows, names, i)?;
     }
-    if deep {
-        return Checked::Refused(Refusal::TooDeep, row);
-    }
-    Checked::Refused(Refusal::WrongEnd, row)
+    let refusal = if deep {
+        Refusal::TooDeep
+    } else {
+        Refusal::WrongEnd
+    };
+    Err(Refused {
+        refusal,
+        place: row,
+    })
 }
 
 // The rows after row 0, which is placed. The first that is wrong by itself is told by `refuse`, and one whose children do not fit at the end.
@@ -221,7 +230,7 @@ fn check_rest(
     ends: &mut [usize; 100],
     left: &mut [usize; 100],
     own: &mut [usize; 100],
-) -> Checked
+) -> Result<(), Refused>
     requires { RootPlaced rows.now count names at.depth at.first ends.old left.old own.old }
     ensures { result ≡ checked_rows rows.now count names }
 {
@@ -245,13 +254,22 @@ fn check_rest(
         row += 1;
     }
     if at.first < count {
-        return Checked::Refused(Refusal::WrongChildren, at.first);
+        return Err(Refused {
+            refusal: Refusal::WrongChildren,
+            place: at.first,
+        });
     }
-    Checked::Passed
+    Ok(())
 }
 
 // Row 0, which has these items, is placed, and the others are looked at; `start` is the first row found before.
-fn check_from_root(rows: &[u32], count: usize, names: usize, items: usize, start: usize) -> Checked
+fn check_from_root(
+    rows: &[u32],
+    count: usize,
+    names: usize,
+    items: usize,
+    start: usize,
+) -> Result<(), Refused>
     requires { Started rows.now count names items start }
     ensures { result ≡ checked_rows rows.now count names }
 {
@@ -274,11 +292,14 @@ fn root_found(count: usize, kind: usize) -> usize
 
 // Fields, ends and depth, children: refusals 5 and 6, then 7 and 8, then 9, each in row order. Row 0 is looked at first: every other
 // row stands in it.
-pub fn check(rows: &[u32], count: usize, names: usize) -> Checked
+pub fn check(rows: &[u32], count: usize, names: usize) -> Result<(), Refused>
     ensures { result ≡ checked_rows rows.now count names }
 {
     if !held(rows, count) {
-        return Checked::Refused(Refusal::WrongRecord, 0);
+        return Err(Refused {
+            refusal: Refusal::WrongRecord,
+            place: 0,
+        });
     }
     let entries = kinds::kinds();
     let kind = table::kind_at(rows, 0);

@@ -1,6 +1,7 @@
 -- The kinds that rules speak of by name, as the numbers that the code matches on: each name is looked up in the list, and each match is computed at
 -- all 66 numbers.
-use Prim.Native.Nat.{ℕ}
+use Prim.Native.Nat.{ℕ, zero, suc, ◌-◌, ◌<◌}
+use native.Mathlib.Omega.{arith}
 use mathlib.Core.Path.{◌≡◌, refl}
 use mathlib.Core.Bool.{cond}
 use lib.Dec.{eqb}
@@ -75,6 +76,21 @@ module _ (k : ℕ) where
   pub stmt_is : (n : ℕ) (c : StmtClass) → k ≡ n → c ≡ by_number n → c ≡ stmt_class k
   stmt_is n c e v = rw (stmt_numbers, e) v
 
+  -- "concurrent through cover"
+  pub unmodelled_is : 29 < k → k < 38 → Unmodelled ≡ stmt_class k
+  unmodelled_is l h = go (k - 30) refl
+    where
+      go : (d : ℕ) → k - 30 ≡ d → Unmodelled ≡ stmt_class k
+      go zero q = stmt_is 30 Unmodelled (omega arith) refl
+      go (suc zero) q = stmt_is 31 Unmodelled (omega arith) refl
+      go (suc (suc zero)) q = stmt_is 32 Unmodelled (omega arith) refl
+      go (suc (suc (suc zero))) q = stmt_is 33 Unmodelled (omega arith) refl
+      go (suc (suc (suc (suc zero)))) q = stmt_is 34 Unmodelled (omega arith) refl
+      go (suc (suc (suc (suc (suc zero))))) q = stmt_is 35 Unmodelled (omega arith) refl
+      go (suc (suc (suc (suc (suc (suc zero)))))) q = stmt_is 36 Unmodelled (omega arith) refl
+      go (suc (suc (suc (suc (suc (suc (suc zero))))))) q = stmt_is 37 Unmodelled (omega arith) refl
+      go (suc (suc (suc (suc (suc (suc (suc (suc d)))))))) q = absurd (omega arith)
+
   -- every other number
   abbrev pub isnt : ℕ → Type 0
   isnt n = k ≡ n → ⊥
@@ -87,4 +103,4 @@ module _ (k : ℕ) where
       n35 n36 n37 n38 n39 =
       rw stmt_numbers (simp ne_eqb)
 
-pub ruleset stmt_named = (stmt_is, no_stmt)
+pub ruleset stmt_named = (stmt_is, unmodelled_is, no_stmt)

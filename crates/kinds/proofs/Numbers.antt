@@ -7,8 +7,9 @@ use mathlib.Core.List.{List, [], ◌∷◌, map}
 use native.Mathlib.Nat.{pos_of_ne-zero}
 use native.Mathlib.Omega.{arith}
 use lib.ListN.{length, get_or, length-map, get_or-map}
-use lib.Dec.{eqb, leb, ltb, leb-suc-suc, eqb-suc-zero}
-use borrow.Author.Tests.{ltb-true, ltb-false, le-ltb, le-leb, lt-leb, leb-true, eqb-true, eqb-false, eq-eqb, ne_eqb}
+use lib.Dec.{eqb, leb, ltb}
+use borrow.Author.Tests.{ltb-true, ltb-false, lt-ltb, le-ltb, le-leb, lt-leb, leb-true, eqb-true, eqb-false, eq-eqb, ne_eqb}
+use Rattle.kinds.specs.declared.SideNumbers.{SideNumbers}
 use Rattle.kinds.specs.declared.Kind.{Kind}
 use Rattle.kinds.specs.Kinds.{Class, absent, path, seg, delay, intra, star_or_list, event, arm, decl, S, E, L, Sides, zero_only, up_to, name_number, Item, kinds, no_entry, entry, class_number, of_class, is_kind, in_class, side_fits, takes}
 use Rattle.kinds.specs.Steps.{sides_number, side_below, count_before, amount, first_of, past_of, bit, item_number, items_number, of_first, takes_first, repeats_first, rest_first, numbers}
@@ -18,7 +19,14 @@ pub kinds_count : length kinds ≡ 66
 unfolding kinds
 kinds_count = refl
 
--- the side numbers below a count of one: 0
+-- the numbers up to 0, and those below 1: 0
+at_most_none : (n : ℕ) → leb n 0 ≡ eqb n 0
+at_most_none n = go (eqb n 0) refl
+  where
+    go : (b : Bool) → eqb n 0 ≡ b → leb n 0 ≡ b
+    go true e = rw (eqb-true n 0 e)
+    go false e = lt-leb n 0 (pos_of_ne-zero (eqb-false n 0 e))
+
 below_one : (n : ℕ) → ltb n 1 ≡ eqb n 0
 below_one n = go (eqb n 0) refl
   where
@@ -26,11 +34,11 @@ below_one n = go (eqb n 0) refl
     go true e = rw (eqb-true n 0 e)
     go false e = le-ltb n 1 (pos_of_ne-zero (eqb-false n 0 e))
 
--- the count of side numbers, and the side numbers
+-- the side numbers that the code holds are the kind's
 side_number : (s : Sides) (names side : ℕ) → side_below (sides_number s) names side ≡ side_fits s names side
 unfolding side_below sides_number side_fits
-side_number zero_only names side = below_one side
-side_number (up_to n) names side = rw (eqb-suc-zero n) (leb-suc-suc side n)
+side_number zero_only names side = at_most_none side
+side_number (up_to n) names side = refl
 side_number name_number names side = refl
 
 -- The computed test of a class: the kinds from its first up to the number past its last are those of the class and no other,
@@ -89,6 +97,22 @@ in_range_lem c k = go (ltb k 66) refl
         rw (e, le-ltb k (past_of c) (omega (arith, ltb-false k 66 e, (class_right c).high)))
         (and-false (leb (first_of c) k))
 
+-- the kinds 11 to 39 are statements
+module _ (k : ℕ) where
+  pub statement_is : 11 ≤ k → k ≤ 39 → true ≡ in_class S k
+  unfolding first_of past_of count_before amount kinds of_class class_number
+  statement_is l h = sym (rw (le-leb 11 k l, lt-ltb k 40 (omega arith))) ∙ in_range_lem S k
+
+  pub statement_below : k < 11 → false ≡ in_class S k
+  unfolding first_of past_of count_before amount kinds of_class class_number
+  statement_below l = sym (rw (lt-leb 11 k l)) ∙ in_range_lem S k
+
+  pub statement_above : 39 < k → false ≡ in_class S k
+  unfolding first_of past_of count_before amount kinds of_class class_number
+  statement_above l = sym (rw (le-ltb k 40 l, and-false (leb 11 k))) ∙ in_range_lem S k
+
+pub ruleset statements = (statement_is, statement_below, statement_above)
+
 -- the kind `none` is 0
 is_absent_lem : (k : ℕ) → eqb k 0 ≡ in_class absent k
 unfolding first_of past_of count_before amount of_class class_number kinds
@@ -146,22 +170,21 @@ pub some_number : (i : Item) (items : List Item) → 0 < items_number (i ∷ ite
 unfolding items_number item_number
 some_number i items = omega (arith, (class_right i.class).some)
 
--- A result that is read from a number, and what it means where the number is that of a kind's side numbers or items: the two
--- promises of the calls that read them.
-pub side_told : (sides names side : ℕ) (r : Bool) → r ≡ side_below sides names side → (r ≡ side_below sides names side) × ((s : Sides) → sides ≡ sides_number s → r ≡ side_fits s names side)
-side_told sides names side r q = (q, λ s e. q ∙ rw e (side_number s names side))
+-- A result that is read from the code's table, and what it means where that holds a kind's side numbers or items.
+pub side_told : (sides : SideNumbers) (names side : ℕ) (r : Bool) → r ≡ side_below sides names side → (s : Sides) → sides ≡ sides_number s → r ≡ side_fits s names side
+side_told sides names side r q s e = q ∙ rw e (side_number s names side)
 
 module _ (items : ℕ) where
-  pub takes_told : (k : ℕ) (r : Bool) → r ≡ takes_first items k → (r ≡ takes_first items k) × ((i : Item) (others : List Item) → items ≡ items_number (i ∷ others) → r ≡ takes i k)
-  takes_told k r q = (q, λ i others e. q ∙ rw e (takes_first_lem i others k))
+  pub takes_told : (k : ℕ) (r : Bool) → r ≡ takes_first items k → (i : Item) (others : List Item) → items ≡ items_number (i ∷ others) → r ≡ takes i k
+  takes_told k r q i others e = q ∙ rw e (takes_first_lem i others k)
 
   -- by its class, or as `none` where the item may be absent
   module _ (k : ℕ) (b : Bool) (e : b ≡ of_first items k) where
-    pub taken_of : b ≡ true → true ≡ takes_first items k
+    pub taken_of : b ≡ true → b ≡ takes_first items k
     unfolding takes_first
-    taken_of h = rw (← e, h) (sym (or-true (leb 128 (items % 256) && eqb k 0)))
+    taken_of h = h ∙ rw (← e, h) (sym (or-true (leb 128 (items % 256) && eqb k 0)))
 
-    pub taken_not : b ≡ false → (k ≡ 0 → ⊥) → false ≡ takes_first items k
+    pub taken_not : b ≡ false → (k ≡ 0 → ⊥) → eqb k 0 ≡ takes_first items k
     unfolding takes_first
     taken_not h n = rw (← e, h, ne_eqb k 0 n, and-false (leb 128 (items % 256)))
 

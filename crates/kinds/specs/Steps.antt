@@ -1,17 +1,20 @@
 -- The numbers that the code keeps for an entry of the table, and how it reads them. Nothing here is document 01's: that
 -- these numbers say what the list says is proved in proofs/Numbers.
 use Rattle.std.specs.Prelude.{ℕ, suc, ◌+◌, ◌*◌, ◌/◌, ◌%◌, Bool, true, false, cond, ◌&&◌, ◌||◌, List, [], ◌∷◌, eqb, leb, ltb}
+use Rattle.kinds.specs.declared.SideNumbers.{SideNumbers}
+use Rattle.kinds.specs.declared.SideNumbers.TheVariants.{UpTo, Names}
 use Rattle.kinds.specs.declared.Kind.{Kind}
 use Rattle.kinds.specs.Kinds.{Class, Sides, zero_only, up_to, name_number, Item, Entry, kinds, of_class}
 
--- how many side numbers there are; 0 stands for as many as there are names
-unfoldable pub sides_number : Sides → ℕ
-sides_number zero_only = 1
-sides_number (up_to n) = suc n
-sides_number name_number = 0
+-- the side numbers that the code's table holds
+unfoldable pub sides_number : Sides → SideNumbers
+sides_number zero_only = UpTo 0
+sides_number (up_to n) = UpTo n
+sides_number name_number = Names
 
-unfoldable pub side_below : ℕ → ℕ → ℕ → Bool
-side_below sides names side = cond (eqb sides 0) (ltb side names) (ltb side sides)
+unfoldable pub side_below : SideNumbers → ℕ → ℕ → Bool
+side_below (UpTo most) names side = leb side most
+side_below Names names side = ltb side names
 
 abbrev pub bit : Bool → ℕ
 bit true = 1

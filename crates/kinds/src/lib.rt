@@ -6,12 +6,22 @@ ghost use Rattle.kinds.specs.Kinds.{Item, Sides, kinds as kind_list, in_class, S
 ghost use Rattle.kinds.specs.Named.{expr_class, stmt_class};
 ghost use Rattle.kinds.specs.Steps.{numbers, sides_number, items_number, side_below, of_first, takes_first, repeats_first, rest_first};
 
-// What the table holds of a kind: how many side numbers it has, 0 for as many as there are names, and its children, four
-// hex digits an item with the first item lowest (specs/Steps).
+// The side numbers of a kind: those from 0 up to one, or the numbers of the names.
+#[derive(Clone, Copy)]
+pub enum SideNumbers {
+    UpTo(usize),
+    Names,
+}
+
+// The items of a kind's children in one number, 16 bits an item with the first item lowest (specs/Steps). One number is what is left of a row's
+// children, and the check of a table keeps it of each open row on a stack of fixed size.
+pub type Items = usize;
+
+// What the table holds of a kind.
 #[derive(Clone, Copy)]
 pub struct Kind {
-    pub sides: usize,
-    pub children: usize,
+    pub sides: SideNumbers,
+    pub children: Items,
 }
 
 // The kinds that the rules of expressions and targets name.
@@ -58,336 +68,366 @@ pub enum StmtClass {
     NoStmt,
 }
 
+// An item asks for the kinds of a class, here by the number of its first kind and, 8 bits higher, the number past its last.
+const PATH: Items = 0x0201;
+
+const SEG: Items = 0x0302;
+
+const DELAY: Items = 0x0403;
+
+const INTRA: Items = 0x0504;
+
+const STAR_OR_LIST: Items = 0x0705;
+
+const EVENT: Items = 0x0807;
+
+const ARM: Items = 0x0a08;
+
+const DECL: Items = 0x0b0a;
+
+const STATEMENT: Items = 0x280b;
+
+const EXPRESSION: Items = 0x3c28;
+
+const TARGET: Items = 0x423c;
+
+// The mark of an item in whose place `none` may stand, that of one that may stand any number of times, and no items.
+const OPTIONAL: Items = 0x0080;
+
+const ANY: Items = 0x8000;
+
+const NONE: Items = 0;
+
 const KINDS: [Kind; 66] = [
     // none
     Kind {
-        sides: 1,
-        children: 0,
+        sides: SideNumbers::UpTo(0),
+        children: NONE,
     },
     // path seg*
     Kind {
-        sides: 1,
-        children: 0x8302,
+        sides: SideNumbers::UpTo(0),
+        children: SEG | ANY,
     },
     // seg
     Kind {
-        sides: 0,
-        children: 0,
+        sides: SideNumbers::Names,
+        children: NONE,
     },
     // delay E*
     Kind {
-        sides: 1,
-        children: 0xbc28,
+        sides: SideNumbers::UpTo(0),
+        children: EXPRESSION | ANY,
     },
     // intra E? (star or list)
     Kind {
-        sides: 1,
-        children: 0x0705_3ca8,
+        sides: SideNumbers::UpTo(0),
+        children: (EXPRESSION | OPTIONAL) | STAR_OR_LIST << 16,
     },
     // star
     Kind {
-        sides: 1,
-        children: 0,
+        sides: SideNumbers::UpTo(0),
+        children: NONE,
     },
     // list event*
     Kind {
-        sides: 1,
-        children: 0x8807,
+        sides: SideNumbers::UpTo(0),
+        children: EVENT | ANY,
     },
     // event E E?
     Kind {
-        sides: 1,
-        children: 0x3ca8_3c28,
+        sides: SideNumbers::UpTo(0),
+        children: EXPRESSION | (EXPRESSION | OPTIONAL) << 16,
     },
     // match S E*
     Kind {
-        sides: 1,
-        children: 0xbc28_280b,
+        sides: SideNumbers::UpTo(0),
+        children: STATEMENT | (EXPRESSION | ANY) << 16,
     },
     // default S
     Kind {
-        sides: 1,
-        children: 0x280b,
+        sides: SideNumbers::UpTo(0),
+        children: STATEMENT,
     },
     // decl E?
     Kind {
-        sides: 0,
-        children: 0x3ca8,
+        sides: SideNumbers::Names,
+        children: EXPRESSION | OPTIONAL,
     },
     // blocking delay? intra? L E
     Kind {
-        sides: 1,
-        children: 0x3c28_423c_0584_0483,
+        sides: SideNumbers::UpTo(0),
+        children: (DELAY | OPTIONAL) | (INTRA | OPTIONAL) << 16 | TARGET << 32 | EXPRESSION << 48,
     },
     // nonblocking delay? intra? L E
     Kind {
-        sides: 1,
-        children: 0x3c28_423c_0584_0483,
+        sides: SideNumbers::UpTo(0),
+        children: (DELAY | OPTIONAL) | (INTRA | OPTIONAL) << 16 | TARGET << 32 | EXPRESSION << 48,
     },
     // if E S S?
     Kind {
-        sides: 1,
-        children: 0x288b_280b_3c28,
+        sides: SideNumbers::UpTo(0),
+        children: EXPRESSION | STATEMENT << 16 | (STATEMENT | OPTIONAL) << 32,
     },
     // return E?
     Kind {
-        sides: 1,
-        children: 0x3ca8,
+        sides: SideNumbers::UpTo(0),
+        children: EXPRESSION | OPTIONAL,
     },
     // case E (match or default)*
     Kind {
-        sides: 1,
-        children: 0x8a08_3c28,
+        sides: SideNumbers::UpTo(0),
+        children: EXPRESSION | (ARM | ANY) << 16,
     },
     // for S E S S
     Kind {
-        sides: 2,
-        children: 0x280b_280b_3c28_280b,
+        sides: SideNumbers::UpTo(1),
+        children: STATEMENT | EXPRESSION << 16 | STATEMENT << 32 | STATEMENT << 48,
     },
     // while E S
     Kind {
-        sides: 2,
-        children: 0x280b_3c28,
+        sides: SideNumbers::UpTo(1),
+        children: EXPRESSION | STATEMENT << 16,
     },
     // repeat E S
     Kind {
-        sides: 2,
-        children: 0x280b_3c28,
+        sides: SideNumbers::UpTo(1),
+        children: EXPRESSION | STATEMENT << 16,
     },
     // forever S
     Kind {
-        sides: 2,
-        children: 0x280b,
+        sides: SideNumbers::UpTo(1),
+        children: STATEMENT,
     },
     // block decl* S*
     Kind {
-        sides: 1,
-        children: 0xa80b_8b0a,
+        sides: SideNumbers::UpTo(0),
+        children: (DECL | ANY) | (STATEMENT | ANY) << 16,
     },
     // fork S*
     Kind {
-        sides: 1,
-        children: 0xa80b,
+        sides: SideNumbers::UpTo(0),
+        children: STATEMENT | ANY,
     },
     // systask E*
     Kind {
-        sides: 1,
-        children: 0xbc28,
+        sides: SideNumbers::UpTo(0),
+        children: EXPRESSION | ANY,
     },
     // task path E*
     Kind {
-        sides: 8,
-        children: 0xbc28_0201,
+        sides: SideNumbers::UpTo(7),
+        children: PATH | (EXPRESSION | ANY) << 16,
     },
     // randstmt
     Kind {
-        sides: 1,
-        children: 0,
+        sides: SideNumbers::UpTo(0),
+        children: NONE,
     },
     // delayctrl delay S?
     Kind {
-        sides: 1,
-        children: 0x288b_0403,
+        sides: SideNumbers::UpTo(0),
+        children: DELAY | (STATEMENT | OPTIONAL) << 16,
     },
     // eventctrl (star or list) S?
     Kind {
-        sides: 1,
-        children: 0x288b_0705,
+        sides: SideNumbers::UpTo(0),
+        children: STAR_OR_LIST | (STATEMENT | OPTIONAL) << 16,
     },
     // trigger
     Kind {
-        sides: 1,
-        children: 0,
+        sides: SideNumbers::UpTo(0),
+        children: NONE,
     },
     // wait E S?
     Kind {
-        sides: 1,
-        children: 0x288b_3c28,
+        sides: SideNumbers::UpTo(0),
+        children: EXPRESSION | (STATEMENT | OPTIONAL) << 16,
     },
     // disable path
     Kind {
-        sides: 1,
-        children: 0x0201,
+        sides: SideNumbers::UpTo(0),
+        children: PATH,
     },
     // waitfork
     Kind {
-        sides: 1,
-        children: 0,
+        sides: SideNumbers::UpTo(0),
+        children: NONE,
     },
     // concurrent S? S?
     Kind {
-        sides: 1,
-        children: 0x288b_288b,
+        sides: SideNumbers::UpTo(0),
+        children: (STATEMENT | OPTIONAL) | (STATEMENT | OPTIONAL) << 16,
     },
     // passign
     Kind {
-        sides: 1,
-        children: 0,
+        sides: SideNumbers::UpTo(0),
+        children: NONE,
     },
     // deassign
     Kind {
-        sides: 1,
-        children: 0,
+        sides: SideNumbers::UpTo(0),
+        children: NONE,
     },
     // force
     Kind {
-        sides: 1,
-        children: 0,
+        sides: SideNumbers::UpTo(0),
+        children: NONE,
     },
     // release
     Kind {
-        sides: 1,
-        children: 0,
+        sides: SideNumbers::UpTo(0),
+        children: NONE,
     },
     // deferred S S
     Kind {
-        sides: 1,
-        children: 0x280b_280b,
+        sides: SideNumbers::UpTo(0),
+        children: STATEMENT | STATEMENT << 16,
     },
     // cover
     Kind {
-        sides: 1,
-        children: 0,
+        sides: SideNumbers::UpTo(0),
+        children: NONE,
     },
     // null
     Kind {
-        sides: 1,
-        children: 0,
+        sides: SideNumbers::UpTo(0),
+        children: NONE,
     },
     // error
     Kind {
-        sides: 1,
-        children: 0,
+        sides: SideNumbers::UpTo(0),
+        children: NONE,
     },
     // lit
     Kind {
-        sides: 1,
-        children: 0,
+        sides: SideNumbers::UpTo(0),
+        children: NONE,
     },
     // ident path
     Kind {
-        sides: 1,
-        children: 0x0201,
+        sides: SideNumbers::UpTo(0),
+        children: PATH,
     },
     // unary E
     Kind {
-        sides: 2,
-        children: 0x3c28,
+        sides: SideNumbers::UpTo(1),
+        children: EXPRESSION,
     },
     // binary E E
     Kind {
-        sides: 3,
-        children: 0x3c28_3c28,
+        sides: SideNumbers::UpTo(2),
+        children: EXPRESSION | EXPRESSION << 16,
     },
     // ternary E E E
     Kind {
-        sides: 1,
-        children: 0x3c28_3c28_3c28,
+        sides: SideNumbers::UpTo(0),
+        children: EXPRESSION | EXPRESSION << 16 | EXPRESSION << 32,
     },
     // bitsel E E
     Kind {
-        sides: 1,
-        children: 0x3c28_3c28,
+        sides: SideNumbers::UpTo(0),
+        children: EXPRESSION | EXPRESSION << 16,
     },
     // partsel E E E
     Kind {
-        sides: 1,
-        children: 0x3c28_3c28_3c28,
+        sides: SideNumbers::UpTo(0),
+        children: EXPRESSION | EXPRESSION << 16 | EXPRESSION << 32,
     },
     // indexed E E E
     Kind {
-        sides: 1,
-        children: 0x3c28_3c28_3c28,
+        sides: SideNumbers::UpTo(0),
+        children: EXPRESSION | EXPRESSION << 16 | EXPRESSION << 32,
     },
     // mtm E E E
     Kind {
-        sides: 1,
-        children: 0x3c28_3c28_3c28,
+        sides: SideNumbers::UpTo(0),
+        children: EXPRESSION | EXPRESSION << 16 | EXPRESSION << 32,
     },
     // concat E*
     Kind {
-        sides: 1,
-        children: 0xbc28,
+        sides: SideNumbers::UpTo(0),
+        children: EXPRESSION | ANY,
     },
     // syscall E*
     Kind {
-        sides: 1,
-        children: 0xbc28,
+        sides: SideNumbers::UpTo(0),
+        children: EXPRESSION | ANY,
     },
     // pattern E*
     Kind {
-        sides: 1,
-        children: 0xbc28,
+        sides: SideNumbers::UpTo(0),
+        children: EXPRESSION | ANY,
     },
     // replicate E E*
     Kind {
-        sides: 1,
-        children: 0xbc28_3c28,
+        sides: SideNumbers::UpTo(0),
+        children: EXPRESSION | (EXPRESSION | ANY) << 16,
     },
     // method E E*
     Kind {
-        sides: 1,
-        children: 0xbc28_3c28,
+        sides: SideNumbers::UpTo(0),
+        children: EXPRESSION | (EXPRESSION | ANY) << 16,
     },
     // call path E*
     Kind {
-        sides: 4,
-        children: 0xbc28_0201,
+        sides: SideNumbers::UpTo(3),
+        children: PATH | (EXPRESSION | ANY) << 16,
     },
     // paren E
     Kind {
-        sides: 1,
-        children: 0x3c28,
+        sides: SideNumbers::UpTo(0),
+        children: EXPRESSION,
     },
     // cast E E?
     Kind {
-        sides: 1,
-        children: 0x3ca8_3c28,
+        sides: SideNumbers::UpTo(0),
+        children: EXPRESSION | (EXPRESSION | OPTIONAL) << 16,
     },
     // namedarg E?
     Kind {
-        sides: 1,
-        children: 0x3ca8,
+        sides: SideNumbers::UpTo(0),
+        children: EXPRESSION | OPTIONAL,
     },
     // new E E?
     Kind {
-        sides: 1,
-        children: 0x3ca8_3c28,
+        sides: SideNumbers::UpTo(0),
+        children: EXPRESSION | (EXPRESSION | OPTIONAL) << 16,
     },
     // opaque
     Kind {
-        sides: 1,
-        children: 0,
+        sides: SideNumbers::UpTo(0),
+        children: NONE,
     },
     // lident path
     Kind {
-        sides: 1,
-        children: 0x0201,
+        sides: SideNumbers::UpTo(0),
+        children: PATH,
     },
     // lbit L E
     Kind {
-        sides: 1,
-        children: 0x3c28_423c,
+        sides: SideNumbers::UpTo(0),
+        children: TARGET | EXPRESSION << 16,
     },
     // lpart L E E
     Kind {
-        sides: 1,
-        children: 0x3c28_3c28_423c,
+        sides: SideNumbers::UpTo(0),
+        children: TARGET | EXPRESSION << 16 | EXPRESSION << 32,
     },
     // lidx L E E
     Kind {
-        sides: 1,
-        children: 0x3c28_3c28_423c,
+        sides: SideNumbers::UpTo(0),
+        children: TARGET | EXPRESSION << 16 | EXPRESSION << 32,
     },
     // lconcat L*
     Kind {
-        sides: 1,
-        children: 0xc23c,
+        sides: SideNumbers::UpTo(0),
+        children: TARGET | ANY,
     },
     // lerror
     Kind {
-        sides: 1,
-        children: 0,
+        sides: SideNumbers::UpTo(0),
+        children: NONE,
     },
 ];
 
@@ -403,23 +443,22 @@ pub fn side_fits(kind: Kind, side: usize, names: usize) -> bool
     ensures value { result ≡ side_below kind.sides names side }
     ensures means { (s : Sides) → kind.sides ≡ sides_number s → result ≡ side_fits s names side }
 {
-    if kind.sides == 0 {
-        return side < names;
+    match kind.sides {
+        SideNumbers::UpTo(most) => side <= most,
+        SideNumbers::Names => side < names,
     }
-    side < kind.sides
 }
 
 // Whether a kind is a statement: kinds 11 to 39 are.
+#[tactic(auto, using(crate::proofs::Numbers::statements))]
 pub fn is_statement(kind: usize) -> bool
     ensures { result ≡ in_class S kind }
 {
-    if kind < 11 {
-        return false;
-    }
-    kind < 40
+    matches!(kind, 11..=39)
 }
 
-// What the rules of expressions and targets call a kind.
+// What the rules of expressions and targets call a kind. No `From`: several kinds have one class, so a class is no conversion of a number.
+#[tactic(auto, using(crate::proofs::Named::named))]
 pub fn expr_class(kind: usize) -> ExprClass
     ensures { result ≡ expr_class kind }
 {
@@ -438,6 +477,7 @@ pub fn expr_class(kind: usize) -> ExprClass
 }
 
 // What the rules of statements call a kind.
+#[tactic(auto, using(crate::proofs::Named::stmt_named))]
 pub fn stmt_class(kind: usize) -> StmtClass
     ensures { result ≡ stmt_class kind }
 {
@@ -459,52 +499,33 @@ pub fn stmt_class(kind: usize) -> StmtClass
         21 => StmtClass::Fork,
         22 => StmtClass::Systask,
         23 => StmtClass::Task,
-        24 => StmtClass::Unmodelled,
         25 => StmtClass::Delayctrl,
         26 => StmtClass::Eventctrl,
-        27 => StmtClass::Unmodelled,
         28 => StmtClass::Wait,
         29 => StmtClass::Disable,
-        30 => StmtClass::Unmodelled,
-        31 => StmtClass::Unmodelled,
-        32 => StmtClass::Unmodelled,
-        33 => StmtClass::Unmodelled,
-        34 => StmtClass::Unmodelled,
-        35 => StmtClass::Unmodelled,
-        36 => StmtClass::Unmodelled,
-        37 => StmtClass::Unmodelled,
         38 => StmtClass::Null,
-        39 => StmtClass::Unmodelled,
+        24 | 27 | 30..=37 | 39 => StmtClass::Unmodelled,
         _ => StmtClass::NoStmt,
     }
 }
 
 // Whether a kind is of the class that the first item of a kind's children asks for.
-fn of_first(items: usize, kind: usize) -> bool
+fn of_first(items: Items, kind: usize) -> bool
     ensures { result ≡ of_first items kind }
 {
-    if kind < items % 128 {
-        return false;
-    }
-    kind < items / 256 % 128
+    items % 128 <= kind && kind < items / 256 % 128
 }
 
 // Whether the first item of a kind's children takes a child of this kind.
-pub fn takes_first(items: usize, kind: usize) -> bool
+pub fn takes_first(items: Items, kind: usize) -> bool
     ensures value { result ≡ takes_first items kind }
     ensures means { (i : Item) (others : List Item) → items ≡ items_number (i ∷ others) → result ≡ takes i kind }
 {
-    if of_first(items, kind) {
-        return true;
-    }
-    if kind != 0 {
-        return false;
-    }
-    128 <= items % 256
+    of_first(items, kind) || (kind == 0 && 128 <= items % 256)
 }
 
 // Whether it may stand any number of times.
-pub fn repeats_first(items: usize) -> bool
+pub fn repeats_first(items: Items) -> bool
     ensures value { result ≡ repeats_first items }
     ensures means { (i : Item) (others : List Item) → items ≡ items_number (i ∷ others) → result ≡ i.may_repeat }
 {
@@ -512,7 +533,7 @@ pub fn repeats_first(items: usize) -> bool
 }
 
 // The items after the first.
-pub fn rest_first(items: usize) -> usize
+pub fn rest_first(items: Items) -> Items
     ensures value { result ≡ rest_first items }
     ensures means { (i : Item) (others : List Item) → items ≡ items_number (i ∷ others) → result ≡ items_number others }
 {

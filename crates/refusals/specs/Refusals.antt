@@ -1,6 +1,7 @@
 -- The refusals and their numbers: document 01, "What the caller gets", the table "From the input" and "From the state". Definitions only.
-use Rattle.std.specs.Prelude.{ℕ}
+use Rattle.std.specs.Prelude.{ℕ, Result, Err}
 use Rattle.refusals.specs.declared.Refusal.{Refusal}
+use Rattle.refusals.specs.declared.Refused.{Refused}
 use Rattle.refusals.specs.declared.Refusal.TheVariants.{WrongLine, WrongNumber, OutOfRange, WrongName, UnknownKind, WrongSide, WrongEnd}
 use Rattle.refusals.specs.declared.Refusal.TheVariants.{TooDeep, WrongChildren, TooLong, NoRoom, WrongRecord, WrongTable, NoName}
 
@@ -34,3 +35,7 @@ refusal_number WrongRecord = 22
 refusal_number WrongTable = 23
 -- "number not below names, or its place passes the end of the bytes lent"
 refusal_number NoName = 24
+
+-- "No." and "place": an answer that is a refusal, with the line or row that is told with it
+abbrev pub refused_at : {A : Type 0} → Refusal → ℕ → Result A Refused
+refused_at refusal place = Err (record { refusal = refusal; place = place })

@@ -4,27 +4,27 @@
 ghost use Rattle.std.specs.Prelude.{◌≡◌};
 ghost use Rattle.refusals.specs.Refusals.{refusal_number};
 
-// In the order of document 01's numbers.
-#[derive(Clone, Copy)]
+// Each with document 01's number.
+#[derive(Clone, Copy, PartialEq, Eq)]
 pub enum Refusal {
-    WrongLine,
-    WrongNumber,
-    OutOfRange,
-    WrongName,
-    UnknownKind,
-    WrongSide,
-    WrongEnd,
-    TooDeep,
-    WrongChildren,
-    TooLong,
-    NoRoom,
-    WrongRecord,
-    WrongTable,
-    NoName,
+    WrongLine = 1,
+    WrongNumber = 2,
+    OutOfRange = 3,
+    WrongName = 4,
+    UnknownKind = 5,
+    WrongSide = 6,
+    WrongEnd = 7,
+    TooDeep = 8,
+    WrongChildren = 9,
+    TooLong = 10,
+    NoRoom = 21,
+    WrongRecord = 22,
+    WrongTable = 23,
+    NoName = 24,
 }
 
 // A refusal, and the place that is told with it: a line, a row, or 0 where it has none.
-#[derive(Clone, Copy)]
+#[derive(Clone, Copy, PartialEq, Eq)]
 pub struct Refused {
     pub refusal: Refusal,
     pub place: usize,
@@ -34,20 +34,5 @@ pub struct Refused {
 pub fn number_of(refusal: Refusal) -> usize
     ensures { result ≡ refusal_number refusal }
 {
-    match refusal {
-        Refusal::WrongLine => 1,
-        Refusal::WrongNumber => 2,
-        Refusal::OutOfRange => 3,
-        Refusal::WrongName => 4,
-        Refusal::UnknownKind => 5,
-        Refusal::WrongSide => 6,
-        Refusal::WrongEnd => 7,
-        Refusal::TooDeep => 8,
-        Refusal::WrongChildren => 9,
-        Refusal::TooLong => 10,
-        Refusal::NoRoom => 21,
-        Refusal::WrongRecord => 22,
-        Refusal::WrongTable => 23,
-        Refusal::NoName => 24,
-    }
+    refusal as usize
 }

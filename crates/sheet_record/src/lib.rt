@@ -4,7 +4,8 @@
 ghost use Rattle.std.specs.Prelude.{◌≡◌, ◌+◌, ◌*◌, ◌≤◌, ◌<◌, leb, length};
 ghost use Rattle.sheet_record.specs.Records.{record_fits, record_held, offset_at, size_at, mark_at, marks_fit};
 
-// What loading tells beside the tables: "counts of names and rows, local, start, sole".
+// What loading tells beside the tables: "counts of names and rows, local, start, sole". All are numbers, since a caller may lend any record:
+// `record_fits` refuses a start or sole that is neither 0 nor 1.
 #[derive(Clone, Copy)]
 pub struct Record {
     pub names: usize,
@@ -15,36 +16,15 @@ pub struct Record {
 }
 
 // Whether a record's numbers are in the ranges that loading keeps.
+#[tactic(auto, unfolding(crate::specs::Records::record_fits))]
 pub fn record_fits(record: Record) -> bool
     ensures { result ≡ record_fits «record» }
 {
-    if record.names < 1 {
-        return false;
-    }
-    if 500 < record.names {
-        return false;
-    }
-    if record.rows < 1 {
-        return false;
-    }
-    if 2000 < record.rows {
-        return false;
-    }
-    if record.names <= record.local {
-        return false;
-    }
-    if 1 < record.start {
-        return false;
-    }
-    record.sole <= 1
-}
-
-// Whether a row table has its five numbers for each row.
-fn rows_held(record: Record, numbers: usize) -> bool
-    requires { «record».rows ≤ 2000 }
-    ensures { result ≡ leb (5 * «record».rows) numbers }
-{
-    5 * record.rows <= numbers
+    (1..=500).contains(&record.names)
+        && (1..=2000).contains(&record.rows)
+        && record.local < record.names
+        && record.start <= 1
+        && record.sole <= 1
 }
 
 // Whether a name table has its three numbers for each name.
@@ -56,18 +36,14 @@ pub fn names_held(record: Record, numbers: usize) -> bool
 }
 
 // Whether a record's numbers are in their ranges, and two tables of these lengths hold its rows and names.
+#[tactic(auto, using(crate::proofs::Ranges::fits_names, crate::proofs::Ranges::fits_rows), unfolding(crate::specs::Records::record_held))]
 pub fn record_held(record: Record, rows: usize, names: usize) -> bool
     ensures { result ≡ record_held «record» rows names }
 {
-    if !record_fits(record) {
-        return false;
-    }
-    if !rows_held(record, rows) {
-        return false;
-    }
-    names_held(record, names)
+    record_fits(record) && 5 * record.rows <= rows && names_held(record, names)
 }
 
+// The three numbers of a name. Each is one index: a function with the number as a const parameter below them would add a call and no fewer lines.
 pub fn offset_at(names: &[u32], number: usize) -> usize
     requires { 3 * number + 2 < length names.now }
     ensures { result ≡ offset_at names.now number }
@@ -94,12 +70,5 @@ pub fn marks_fit(names: &[u32], count: usize) -> bool
     requires { 3 * count ≤ length names.now }
     ensures { result ≡ marks_fit names.now count }
 {
-    let mut i = 0;
-    while i < count {
-        if 1 < mark_at(names, i) {
-            return false;
-        }
-        i += 1;
-    }
-    true
+    (0..count).all(|i| mark_at(names, i) <= 1)
 }

@@ -6,13 +6,14 @@ ghost use Rattle.std.specs.Prelude.{◌≡◌, ◌+◌, ◌*◌, ◌<◌, length
 ghost use Rattle.table.specs.Rows.{kind_at, side_at, lo_at, hi_at, end_at, Nested};
 ghost use Rattle.table.specs.Steps.{RowEnd, NextRow};
 
-// A number of the table as an index.
+// A number of the table as an index: usize has no From<u32>, and each `as` has to be proved.
 pub fn wide(x: u32) -> usize
     ensures { result ≡ x }
 {
     x as usize
 }
 
+// The five numbers of a row. Each is one index, so one function with a const parameter below them would be no shorter.
 pub fn kind_at(rows: &[u32], i: usize) -> usize
     requires { 5 * i + 4 < length rows.now }
     ensures { result ≡ kind_at rows.now i }
