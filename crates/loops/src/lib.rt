@@ -2,7 +2,7 @@
 // pass each over the rows of a range.
 #![tactic(auto)]
 
-ghost use Rattle.std.specs.Prelude.{◌≡◌, ◌+◌, ◌*◌, ◌<◌, length, leb};
+ghost use Rattle.std.specs.Prelude.{◌≡◌, ◌+◌, ◌*◌, ◌<◌, length};
 ghost use Rattle.kinds.specs.Named.{stmt_class};
 ghost use Rattle.table.specs.Rows.{Nested, tree, kind_at, side_at};
 ghost use Rattle.loops.specs.Escape.{transfers, cannot_escape, EscapeTold};
@@ -15,27 +15,10 @@ fn transfers_control(rows: &[u32], i: usize) -> bool
     requires { 5 * i + 4 < length rows.now }
     ensures { result ≡ transfers (stmt_class (kind_at rows.now i)) }
 {
-    match kinds::stmt_class(table::kind_at(rows, i)) {
-        StmtClass::Disable => true,
-        StmtClass::Return => true,
-        _ => false,
-    }
-}
-
-// The first of the rows from `from` up to `to` that transfers control, or `to`; told is only whether there is one. A number and no bool,
-// since a bool as the loop's answer costs one instruction more a row, and a loop's body is scanned once for each loop around it.
-fn first_transfer(rows: &[u32], from: usize, to: usize) -> usize
-    requires { Nested rows.now from to }
-    ensures { leb to result ≡ cannot_escape (tree rows.now from to) }
-{
-    let mut i = from;
-    while i < to {
-        if transfers_control(rows, i) {
-            return i;
-        }
-        i += 1;
-    }
-    i
+    matches!(
+        kinds::stmt_class(table::kind_at(rows, i)),
+        StmtClass::Disable | StmtClass::Return
+    )
 }
 
 // stmt_cannot_escape: no row from `from` up to `to` transfers control.
@@ -44,22 +27,19 @@ pub fn stmt_cannot_escape(rows: &[u32], from: usize, to: usize) -> bool
     ensures value { result ≡ cannot_escape (tree rows.now from to) }
     ensures arms { EscapeTold rows.now from to result }
 {
-    to <= first_transfer(rows, from, to)
+    (from..to).all(|i| !transfers_control(rows, i))
 }
 
 // Whether row i itself lets time pass, a task by whether it suspends.
+#[tactic(auto, using(crate::proofs::Answers::time_numbers))]
 fn lets_time_pass(rows: &[u32], i: usize) -> bool
     requires { 5 * i + 4 < length rows.now }
     ensures { result ≡ lets_time_pass (kind_at rows.now i) (side_at rows.now i) }
 {
     match table::kind_at(rows, i) {
-        3 => true, // delay
-        4 => true, // intra
+        3 | 4 => true, // delay, intra
         23 => 4 <= table::side_at(rows, i), // task
-        25 => true, // delayctrl
-        26 => true, // eventctrl
-        28 => true, // wait
-        30 => true, // waitfork
+        25 | 26 | 28 | 30 => true, // delayctrl, eventctrl, wait, waitfork
         _ => false,
     }
 }
@@ -70,12 +50,5 @@ pub fn stmt_advances_time(rows: &[u32], from: usize, to: usize) -> bool
     ensures value { result ≡ advances_time (tree rows.now from to) }
     ensures arms { TimeTold rows.now from to result }
 {
-    let mut i = from;
-    while i < to {
-        if lets_time_pass(rows, i) {
-            return true;
-        }
-        i += 1;
-    }
-    false
+    (from..to).any(|i| lets_time_pass(rows, i))
 }
