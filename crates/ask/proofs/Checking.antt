@@ -18,8 +18,8 @@ use Rattle.sheet_record.specs.Records.{record_fits, marks_of, record_held, marks
 use Rattle.refusals.specs.declared.Refusal.TheVariants.{WrongRecord, WrongTable}
 use Rattle.da.specs.declared.DaOut.{DaOut}
 use Rattle.da.specs.declared.DaGiveUp.{DaGiveUp}
-use Rattle.da.specs.declared.DaResult.{DaResult}
-use Rattle.da.specs.declared.DaResult.TheVariants.{Ok, Err}
+use Rattle.da.specs.Outcome.{DaResult}
+use Rattle.std.specs.Prelude.{Ok, Err}
 use Rattle.da.specs.Walk.{da_ctx, da_stmt}
 use Rattle.da_walk.specs.Statement.{StatementIn}
 use Rattle.answers.specs.declared.Answer.{Answer}

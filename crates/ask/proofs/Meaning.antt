@@ -17,9 +17,8 @@ use Rattle.sheet_record.specs.declared.Record.{Record}
 use Rattle.sheet_record.specs.Records.{record_fits, marks_of, record_held, marks_fit}
 use Rattle.sheet_record.proofs.Ranges.{fits_rows}
 use Rattle.da.specs.declared.DaOut.TheVariants as O
-use Rattle.da.specs.declared.DaResult.{DaResult}
-use Rattle.da.specs.declared.DaResult.TheVariants.{Ok, Err}
-use Rattle.da.specs.Outcome.{State, Accepted}
+use Rattle.std.specs.Prelude.{Ok, Err}
+use Rattle.da.specs.Outcome.{DaResult, State, Accepted}
 use Rattle.da.specs.Walk.{da_ctx}
 use Rattle.da.proofs.Reasons.{Reasoned, goes_on, stops, nine_reasons}
 use Rattle.soundness.proofs.Demand3.{walk_means}

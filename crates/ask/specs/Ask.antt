@@ -1,5 +1,5 @@
 -- Asking: document 01, "What the caller gets", refusals 22 and 23, and the order of asking. Definitions only.
-use Rattle.std.specs.Prelude.{ℕ, cond, List, eqb, length}
+use Rattle.std.specs.Prelude.{ℕ, cond, List, eqb, length, Ok, Err}
 use Rattle.table.specs.Rows.{Forest, tree}
 use Rattle.checks.specs.declared.Checked.{Checked}
 use Rattle.checks.specs.declared.Checked.TheVariants as C
@@ -9,9 +9,7 @@ use Rattle.sheet_record.specs.Records.{record_held, marks_fit, marks_of}
 use Rattle.refusals.specs.declared.Refusal.TheVariants.{WrongRecord, WrongTable}
 use Rattle.da.specs.declared.DaOut.{DaOut}
 use Rattle.da.specs.declared.DaOut.TheVariants as O
-use Rattle.da.specs.declared.DaResult.{DaResult}
-use Rattle.da.specs.declared.DaResult.TheVariants.{Ok, Err}
-use Rattle.da.specs.Outcome.{State}
+use Rattle.da.specs.Outcome.{DaResult, State}
 use Rattle.da.specs.Walk.{da_ctx, da_stmt}
 use Rattle.answers.specs.declared.Answer.{Answer}
 use Rattle.answers.specs.declared.Answer.TheVariants.{Falls, Jumps, GivesUp, Refused}

@@ -23,9 +23,8 @@ use Rattle.loops.specs.Fitting.{fit_here, fit_at, fitting}
 use Rattle.loops.specs.Escape.{cannot_escape_at}
 use Rattle.loops.specs.Time.{waiting_words, is_one_of, lets_time_pass, advances_at}
 use Rattle.da.specs.declared.DaOut.TheVariants.{Falls, Jumps}
-use Rattle.da.specs.declared.DaResult.{DaResult}
-use Rattle.da.specs.declared.DaResult.TheVariants.{Ok, Err}
-use Rattle.da.specs.Outcome.{State, unwritten, written}
+use Rattle.std.specs.Prelude.{Ok, Err}
+use Rattle.da.specs.Outcome.{DaResult, State, unwritten, written}
 use Rattle.da.specs.Walk.{da_ctx, held_facts_at, walk_at, da_stmt}
 
 -- Rows that the facts about paths have no name for: `c`, `y=1;`, an if without else, and others

@@ -12,11 +12,10 @@ use Rattle.kinds.specs.Named.{stmt_class, task_effect, has_default}
 use Rattle.expr_effect.specs.Law.{ExprFacts, no_facts}
 use Rattle.da.specs.declared.DaOut.{DaOut}
 use Rattle.da.specs.declared.DaOut.TheVariants.{Falls, Jumps}
-use Rattle.da.specs.declared.DaResult.{DaResult}
-use Rattle.da.specs.declared.DaResult.TheVariants.{Ok}
+use Rattle.std.specs.Prelude.{Ok}
 use Rattle.da.specs.declared.CallEffect.{CallEffect}
 use Rattle.da.specs.declared.CallEffect.TheVariants.{Inert, Writes, Reads, Unknown}
-use Rattle.da.specs.Outcome.{State, written, is_written, gains, state, merge, ◌▷◌, go_on, give_up}
+use Rattle.da.specs.Outcome.{DaResult, State, written, is_written, gains, state, merge, ◌▷◌, go_on, give_up}
 use Rattle.da.proofs.Walks.{All, none, and, at_place, after_first}
 use Rattle.da.specs.Walk.{DaCtx, Walk, StmtRow, no_walk, expr_reads, expr_out_writes, unless_read, unless_one_read, evaluated, gains_when, assigned, blocking, block, arms, case_of, if_else, rounds, while_true, call_effect, task, only_written, unless_time, referring, walk_of, walk_at, walks, da_stmt}
 

@@ -17,8 +17,7 @@ use Rattle.reads.specs.Mentions.{some}
 use Rattle.expr_effect.specs.Law.{ExprFacts}
 use Rattle.loops.proofs.Trees.{still_below}
 use Rattle.loops.specs.Time.{advances_at, advances, advances_time}
-use Rattle.da.specs.declared.DaResult.{DaResult}
-use Rattle.da.specs.Outcome.{State, give_up}
+use Rattle.da.specs.Outcome.{DaResult, State, give_up}
 use Rattle.da.specs.Walk.{DaCtx, da_ctx, Walk, StmtRow, stmt, walk_of, walk_at, walks, da_stmt}
 
 -- the classes of statements; the others are "no statements, and are not tested"

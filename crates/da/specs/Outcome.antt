@@ -1,9 +1,12 @@
 -- What da_stmt answers: DaOut, DaGiveUp and DaResult of da/mod.rs, and what a state of the walk says. Definitions only.
-use Rattle.std.specs.Prelude.{Bool, true, false, ◌&&◌, ◌||◌, ℕ}
+use Rattle.std.specs.Prelude.{Bool, true, false, ◌&&◌, ◌||◌, ℕ, Result, Ok, Err}
 use Rattle.da.specs.declared.DaOut.{DaOut}
 use Rattle.da.specs.declared.DaOut.TheVariants.{Falls, Jumps}
-use Rattle.da.specs.declared.DaResult.{DaResult}
-use Rattle.da.specs.declared.DaResult.TheVariants.{Ok, Err}
+use Rattle.da.specs.declared.DaGiveUp.{DaGiveUp}
+
+-- "type DaResult = Result<DaOut, DaGiveUp>;"
+abbrev pub DaResult : Type 0
+DaResult = Result DaOut DaGiveUp
 
 -- the walk's `assigned`. Every rule uses it by the five names below (document 02, Paper 5, makes it a mark a bit)
 abbrev pub State : Type 0

@@ -1,6 +1,6 @@
 -- da_stmt: da/mod.rs and loop_body_assigns of da/loops.rs, followed line by line, a row at a time. Definitions only. The nine reasons
 -- have document 01's numbers, and "2 carries the expression's span, the others the statement's".
-use Rattle.std.specs.Prelude.{List, [], ◌∷◌, Bool, true, false, cond, ◌&&◌, not, ℕ, eqb}
+use Rattle.std.specs.Prelude.{List, [], ◌∷◌, Bool, true, false, cond, ◌&&◌, not, ℕ, eqb, Ok}
 use Rattle.table.specs.Rows.{Forest, nil, node}
 use Rattle.table.specs.Fold.{Alg, fold, nth, tail}
 use Rattle.kinds.specs.declared.StmtClass.{StmtClass}
@@ -17,11 +17,9 @@ use Rattle.loops.specs.Escape.{cannot_escapes}
 use Rattle.loops.specs.Time.{advances_at, advances}
 use Rattle.da.specs.declared.DaOut.{DaOut}
 use Rattle.da.specs.declared.DaOut.TheVariants.{Falls, Jumps}
-use Rattle.da.specs.declared.DaResult.{DaResult}
-use Rattle.da.specs.declared.DaResult.TheVariants.{Ok}
 use Rattle.da.specs.declared.CallEffect.{CallEffect}
 use Rattle.da.specs.declared.CallEffect.TheVariants.{Inert, Writes as CallWrites, Reads as CallReads, Unknown}
-use Rattle.da.specs.Outcome.{State, written, is_written, gains, state, merge, ◌▷◌, go_on, give_up}
+use Rattle.da.specs.Outcome.{DaResult, State, written, is_written, gains, state, merge, ◌▷◌, go_on, give_up}
 
 -- DaCtx, "unchanged from top to bottom", with the local. The closures of the Rust are side numbers here.
 pub record DaCtx : Type 0 where

@@ -19,11 +19,7 @@ pub struct DaGiveUp {
     pub hi: u32,
 }
 
-#[derive(Clone, Copy)]
-pub enum DaResult {
-    Ok(DaOut),
-    Err(DaGiveUp),
-}
+pub type DaResult = Result<DaOut, DaGiveUp>;
 
 // What a call does to the local.
 #[derive(Clone, Copy)]
@@ -34,25 +30,24 @@ pub enum CallEffect {
     Unknown,
 }
 
-// The state to enter the next statement with.
-pub fn state(out: DaOut) -> bool
-    ensures { result ≡ state_of out }
-{
-    match out {
-        DaOut::Falls(a) => a,
-        DaOut::Jumps => true,
+impl DaOut {
+    // The state to enter the next statement with.
+    pub fn state(self) -> bool
+        ensures { result ≡ state_of self }
+    {
+        match self {
+            DaOut::Falls(a) => a,
+            DaOut::Jumps => true,
+        }
     }
-}
 
-// Two arms where they meet.
-pub fn merge(first: DaOut, second: DaOut) -> DaOut
-    ensures { result ≡ merge_of first second }
-{
-    match first {
-        DaOut::Jumps => second,
-        DaOut::Falls(a) => match second {
-            DaOut::Jumps => DaOut::Falls(a),
-            DaOut::Falls(b) => DaOut::Falls(a && b),
-        },
+    // Two arms where they meet.
+    pub fn merge(self, other: DaOut) -> DaOut
+        ensures { result ≡ merge_of self other }
+    {
+        match (self, other) {
+            (DaOut::Jumps, out) | (out, DaOut::Jumps) => out,
+            (DaOut::Falls(a), DaOut::Falls(b)) => DaOut::Falls(a && b),
+        }
     }
 }

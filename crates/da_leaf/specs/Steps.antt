@@ -1,6 +1,6 @@
 -- What the code asks and answers on its way through the arms of da_stmt that walk no statement. The rules are those of da's Walk;
 -- here they are taken from rows of a table. Definitions only.
-use Rattle.std.specs.Prelude.{◌≡◌, Bool, true, false, cond, ◌&&◌, not, List, [], ℕ, ◌+◌}
+use Rattle.std.specs.Prelude.{◌≡◌, Bool, true, false, cond, ◌&&◌, not, List, [], ℕ, ◌+◌, Ok, Err}
 use Rattle.table.specs.Rows.{kind_at, side_at, lo_at, hi_at, tree}
 use Rattle.table.specs.Steps.{RowAlone}
 use Rattle.table.specs.Fold.{nth}
@@ -12,9 +12,7 @@ use Rattle.kinds.specs.Named.{stmt_class, task_effect}
 use Rattle.reads.specs.PathRows.{is_loop_jump}
 use Rattle.expr_effect.specs.Law.{ExprFacts, no_facts}
 use Rattle.da.specs.declared.DaOut.TheVariants.{Falls, Jumps}
-use Rattle.da.specs.declared.DaResult.{DaResult}
-use Rattle.da.specs.declared.DaResult.TheVariants.{Ok, Err}
-use Rattle.da.specs.Outcome.{State, written, is_written, gains}
+use Rattle.da.specs.Outcome.{DaResult, State, written, is_written, gains}
 use Rattle.da.specs.Walk.{DaCtx, StmtRow, expr_out_writes, unless_read, unless_one_read, assigned, from_right, from_event, call_effect, task, held_facts, walk_of}
 use Rattle.da_rows.specs.declared.Context.{Context}
 use Rattle.da_leaf.specs.declared.Construct.{Construct}

@@ -6,15 +6,13 @@ use mathlib.Core.List.{List}
 use Prim.Native.Nat.{ℕ, ◌+◌, ◌<◌}
 use borrow.Author.Rules.{rules}
 use Rattle.table.specs.Rows.{kind_at, side_at, lo_at, hi_at, end_at, Forest, tree, Nested}
-use Rattle.table.specs.Steps.{RowEnd}
 use Rattle.table.specs.Fold.{fold}
 use Rattle.table.proofs.Tree.{tree_some, tree_alone}
 use Rattle.reads.specs.Mentions.{some}
 use Rattle.loops.specs.Time.{advances_at, advances, advances_time}
 use Rattle.da.specs.declared.DaGiveUp.{DaGiveUp}
-use Rattle.da.specs.declared.DaResult.{DaResult}
-use Rattle.da.specs.declared.DaResult.TheVariants.{Err}
-use Rattle.da.specs.Outcome.{State}
+use Rattle.std.specs.Prelude.{Err}
+use Rattle.da.specs.Outcome.{DaResult, State}
 use Rattle.da.specs.Walk.{da_ctx, da_stmt}
 use Rattle.da.proofs.Timing.{asked_once}
 use Rattle.soundness.specs.Demand3.{WalkMeans}
@@ -24,14 +22,6 @@ use Rattle.sheet_record.specs.Records.{marks_of}
 use Rattle.da_rows.specs.Steps.{untimed, give_up_at}
 use Rattle.da_walk.specs.Statement.{StatementIn}
 use Rattle.da_walk.specs.Steps.{advances_alone}
-
--- suspends
-module _ (ctx : Context) (rows : List ℕ) (from : ℕ) where
-  pub sole_stays : ctx.sole ≡ true → false ≡ not ctx.sole && advances_alone rows from
-  sole_stays h = rw h
-
-  pub shared_asks : (to end : ℕ) (r : Bool) → ctx.sole ≡ false → RowEnd rows from to end → r ≡ advances_time (tree rows from end) → r ≡ not ctx.sole && advances_alone rows from
-  shared_asks to end r h t v = v ∙ rw (h, t.is)
 
 -- da_stmt
 row_advances : {rows : List ℕ} {from to : ℕ} → Nested rows from to → from < to → advances_alone rows from ≡ advances_at (kind_at rows from) (side_at rows from) (lo_at rows from) (hi_at rows from) (tree rows (from + 1) (end_at rows from)) (advances (tree rows (from + 1) (end_at rows from)))
@@ -54,4 +44,4 @@ module _ (ctx : Context) (rows names : List ℕ) (from to : ℕ) (a : State) (b 
 pub stmt_told : (x : ℕ) (marks : ℕ → Bool) (sole : Bool) (f : Forest) (a : State) (r : DaResult) → r ≡ da_stmt (da_ctx x marks sole) f a → (r ≡ da_stmt (da_ctx x marks sole) f a) × WalkMeans x marks f a r
 stmt_told x marks sole f a r e = (e, rw e (walk_means x marks sole f a))
 
-pub ruleset asked = (rules, sole_stays, shared_asks, stmt_suspends, stmt_walked)
+pub ruleset asked = (rules, stmt_suspends, stmt_walked)

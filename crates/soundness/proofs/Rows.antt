@@ -36,10 +36,9 @@ use Rattle.stmt_paths.proofs.Conditions.{unmet_so}
 use Rattle.stmt_paths.proofs.UnderOrder.{Target, target_keeps, right_keeps, assignment_so, Others, nonblocking_so}
 use Rattle.loops.proofs.Staying.{NeverJumps, stay, stay_at}
 use Rattle.da.specs.declared.DaOut.TheVariants.{Falls, Jumps}
-use Rattle.da.specs.declared.DaResult.{DaResult}
-use Rattle.da.specs.declared.DaResult.TheVariants.{Ok}
+use Rattle.std.specs.Prelude.{Ok}
 use Rattle.da.specs.declared.CallEffect.TheVariants.{Inert, Writes as CallWrites, Reads as CallReads, Unknown}
-use Rattle.da.specs.Outcome.{State, written, is_written, gains, merge, ◌▷◌, give_up}
+use Rattle.da.specs.Outcome.{DaResult, State, written, is_written, gains, merge, ◌▷◌, give_up}
 use Rattle.da.specs.Walk.{DaCtx, Walk, StmtRow, expr_out_writes, gains_when, stmt, no_walk, assigned, blocking, block, else_from, if_else, arms, case_of, rounds, while_true, task, referring, walk_of, held_facts_at, held_facts, stmt_row, walk_at, walks}
 use Rattle.soundness.specs.Demand3.{OrderPremise}
 use Rattle.soundness.proofs.Known.{known, known_written, known_all, known_gains, known_gained, gains_nothing}
