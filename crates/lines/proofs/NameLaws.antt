@@ -1,12 +1,11 @@
 -- A line with a name, test by test: a law for each place where the code returns, with the tests before it as premises.
-use Prim.Native.Nat.{ℕ, ◌-◌, ◌≤◌, ◌<◌}
+use Prim.Native.Nat.{ℕ, ◌-◌}
 use mathlib.Core.Path.{◌≡◌, refl, ◌∙◌}
-use mathlib.Core.Bool.{Bool, true, false, cond}
+use mathlib.Core.Bool.{Bool, true, false, cond, ◌&&◌}
 use mathlib.Core.List.{List}
-use lib.Dec.{eqb}
+use lib.Dec.{eqb, leb}
 use lib.ListN.{length, take, drop}
 use mir.Val.{bool_byte}
-use borrow.Author.Tests.{le-leb, lt-leb}
 use Rattle.std.specs.Prelude.{Option, Some, None, Result, Ok, Err}
 use Rattle.std.specs.List.{starts_with as begins_with}
 use Rattle.kinds.specs.Kinds.{bytes}
@@ -37,24 +36,26 @@ module _ (name : List ℕ) (a : Bool) (p : a ≡ begins_with eqb name (bytes "$b
       go false = refl
 
 -- a name's length and place in the order
-module _ (before name : List ℕ) (offset next : ℕ) where
-  pub name_empty : length name < 1 → Err WrongName ≡ name_of before name offset next
+module _ (before name : List ℕ) (offset next : ℕ) (l : Bool) (p : l ≡ (leb 1 (length name) && leb (length name) 64)) where
+  tests : leb 1 (length name) && (leb (length name) 64 && below before name) ≡ (l && below before name)
+  tests = rw p (go (leb 1 (length name)))
+    where
+      go : (a : Bool) → (a && (leb (length name) 64 && below before name)) ≡ ((a && leb (length name) 64) && below before name)
+      go true = refl
+      go false = refl
+
+  pub name_long : l ≡ false → Err WrongName ≡ name_of before name offset next
   unfolding name_of
-  name_empty h = rw (lt-leb 1 (length name) h)
+  name_long e = rw (tests, e)
 
-  module _ (l : 1 ≤ length name) where
-    pub name_long : 64 < length name → Err WrongName ≡ name_of before name offset next
+  module _ (e : l ≡ true) (r : Bool) (q : r ≡ below before name) where
+    pub name_order : r ≡ false → Err WrongName ≡ name_of before name offset next
     unfolding name_of
-    name_long h = rw (le-leb 1 (length name) l, lt-leb (length name) 64 h)
+    name_order n = rw (tests, e, ← q, n)
 
-    module _ (h : length name ≤ 64) (r : Bool) (e : r ≡ below before name) where
-      pub name_order : r ≡ false → Err WrongName ≡ name_of before name offset next
-      unfolding name_of
-      name_order n = rw (le-leb 1 (length name) l, le-leb (length name) 64 h, ← e, n)
-
-      pub name_told : r ≡ true → (m : ℕ) → m ≡ jump_mark name → Ok (record { value = record { offset = offset; length = length name; mark = m }; next = next }) ≡ name_of before name offset next
-      unfolding name_of
-      name_told n m q = rw (le-leb 1 (length name) l, le-leb (length name) 64 h, ← e, n, q)
+    pub name_told : r ≡ true → (m : ℕ) → m ≡ jump_mark name → Ok (record { value = record { offset = offset; length = length name; mark = m }; next = next }) ≡ name_of before name offset next
+    unfolding name_of
+    name_told n m f = rw (tests, e, ← q, n, f)
 
 -- the line, as its key, its end and its bytes were found
 module _ (before s : List ℕ) (at : ℕ) (o : Option ℕ) (q : o ≡ after_key (bytes "name=") s at) where

@@ -1,9 +1,14 @@
 -- A line with a number, as its key and its end were found.
-use Prim.Native.Nat.{ℕ, ◌≤◌, ◌<◌}
+use Prim.Native.Nat.{ℕ}
 use mathlib.Core.Path.{◌≡◌, refl, sym, ap, ◌∙◌}
-use mathlib.Core.Bool.{true, false, and-false}
+use mathlib.Core.Bool.{Bool, true, false, ◌&&◌, and-false}
 use mathlib.Core.List.{List}
-use borrow.Author.Tests.{le-leb, lt-leb}
+use Rattle.std.specs.declared.ops.RangeInclusive.{RangeInclusive}
+use Rattle.std.specs.Range.{range_inclusive_start, range_inclusive_end, range_inclusive_exhausted, range_inclusive_contains}
+use Rattle.std.specs.Ordering.{nat_cmp}
+use Rattle.std.proofs.lemmas.Bool.Decides.{nat_tests}
+use native.Mathlib.Omega.{arith}
+use lib.Dec.{leb}
 use Rattle.std.specs.Prelude.{Option, Some, None, Ok, Err}
 use Rattle.text.specs.Fields.{is_stop, ends_by}
 use Rattle.text.specs.Steps.{after_key, field_read}
@@ -25,6 +30,10 @@ space_space = refl
 pub space_line : is_stop 32 10 ≡ true
 unfolding is_stop
 space_line = refl
+
+-- what `contains` of a range from low to high tells
+pub ranged_test : (s : RangeInclusive ℕ) (low high x : ℕ) (r : Bool) → range_inclusive_start s ≡ low → range_inclusive_end s ≡ high → range_inclusive_exhausted s ≡ false → r ≡ range_inclusive_contains (λ x y. Some (nat_cmp x y)) s x → r ≡ (leb low x && leb x high)
+ranged_test s low high x r a b e q = q ∙ rw (a, b, e) (grind (arith, nat_tests))
 
 -- whether a line is keyed, as its key and its end were found
 module _ (key s : List ℕ) (at : ℕ) (o : Option ℕ) (q : o ≡ after_key key s at) where
@@ -61,15 +70,12 @@ module _ (key : List ℕ) (low high : ℕ) (s : List ℕ) (at : ℕ) (o : Option
       pub number_large : f.value ≡ None → Err WrongNumber ≡ number_line key low high s at
       number_large z = ap (λ (v : Option ℕ). in_range low high f.next v) (sym z) ∙ number_is
 
-      module _ (v : ℕ) (z : f.value ≡ Some v) where
+      module _ (v : ℕ) (z : f.value ≡ Some v) (b : Bool) (t : b ≡ (leb low v && leb v high)) where
         ranged : in_range low high f.next (Some v) ≡ number_line key low high s at
         ranged = ap (λ (v : Option ℕ). in_range low high f.next v) (sym z) ∙ number_is
 
-        pub number_low : v < low → Err OutOfRange ≡ number_line key low high s at
-        number_low l = rw (← ranged, lt-leb low v l)
+        pub number_outside : b ≡ false → Err OutOfRange ≡ number_line key low high s at
+        number_outside e = rw (← ranged, ← t, e)
 
-        pub number_high : low ≤ v → high < v → Err OutOfRange ≡ number_line key low high s at
-        number_high l h = rw (← ranged, le-leb low v l, lt-leb v high h)
-
-        pub number_value : low ≤ v → v ≤ high → Ok (record { value = v; next = f.next }) ≡ number_line key low high s at
-        number_value l h = rw (← ranged, le-leb low v l, le-leb v high h)
+        pub number_value : b ≡ true → Ok (record { value = v; next = f.next }) ≡ number_line key low high s at
+        number_value e = rw (← ranged, ← t, e)

@@ -61,7 +61,7 @@ pub fn number_line(
     let from = text::after_key(s, at, key).ok_or(Refusal::WrongLine)?;
     let read = text::number(s, from, b'\n', b'\n').ok_or(Refusal::WrongLine)?;
     let value = read.value.ok_or(Refusal::WrongNumber)? as usize;
-    if value < low || high < value {
+    if !(low..=high).contains(&value) {
         return Err(Refusal::OutOfRange);
     }
     Ok(Line {
@@ -82,7 +82,7 @@ fn named(name: &[u8], before: &[u8], offset: usize, next: usize) -> Result<Line<
     ensures { result ≡ name_of before.now name.now offset next }
 {
     let length = name.len();
-    if length < 1 || 64 < length || !text::is_below(before, name) {
+    if !(1..=64).contains(&length) || !text::is_below(before, name) {
         return Err(Refusal::WrongName);
     }
     Ok(Line {

@@ -1,14 +1,18 @@
-use Rattle.lines.proofs.NameLaws.{name_empty, name_long, name_order, name_told}
+use Rattle.std.proofs.Common.{rules, length}
+use Rattle.lines.proofs.NumberLaws.{ranged_test}
+use Rattle.lines.proofs.NameLaws.{name_long, name_order, name_told}
 use Rattle.lines.proofs.named.Goals as goal
-use Rattle.lines.proofs.named.Goals.{then-length-lt1-via-then-length-lt1, then-length-lt1-via-else-length-lt1+then-length-gt64, then-length-lt1-via-else-length-lt1+else-length-gt64+then-not-is_below}
+use Rattle.lines.proofs.named.Goals.{then-not-contains-via-then-not-contains, then-not-contains-via-else-not-contains+then-not-is_below}
 
-pub returns-then-length-lt1 : goal.returns-then-length-lt1
-returns-then-length-lt1 c =
-    elim c.then-length-lt1.branch [
-      | then-length-lt1-via-then-length-lt1 w ↦ name_empty _ _ _ _ w.if-length-lt1.true
-      | then-length-lt1-via-else-length-lt1+then-length-gt64 w ↦ name_long _ _ _ _ w.if-length-lt1.false w.if-length-gt64.true
-      | then-length-lt1-via-else-length-lt1+else-length-gt64+then-not-is_below w ↦ name_order _ _ _ _ w.if-length-lt1.false w.if-length-gt64.false _ w.is_below.ensures w.if-not-is_below.true
+pub returns-then-not-contains : goal.returns-then-not-contains
+returns-then-not-contains c =
+    let t = ranged_test c.new.result 1 64 (length c.args.name.now) _ (search rules) (search rules) (search rules) c.contains.ensures.value in
+    elim c.then-not-contains.branch [
+      | then-not-contains-via-then-not-contains w ↦ name_long _ _ _ _ _ t w.if-not-contains.true
+      | then-not-contains-via-else-not-contains+then-not-is_below w ↦ name_order _ _ _ _ _ t w.if-not-contains.false _ w.is_below.ensures w.if-not-is_below.true
     ]
 
 pub returns : goal.returns
-returns c = name_told _ _ _ _ c.if-length-lt1.false c.if-length-gt64.false _ c.is_below.ensures c.if-not-is_below.false _ c.jump_mark.ensures
+returns c =
+    let t = ranged_test c.new.result 1 64 (length c.args.name.now) _ (search rules) (search rules) (search rules) c.contains.ensures.value in
+    name_told _ _ _ _ _ t c.if-not-contains.false _ c.is_below.ensures c.if-not-is_below.false _ c.jump_mark.ensures

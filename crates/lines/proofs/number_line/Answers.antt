@@ -1,8 +1,7 @@
 use Rattle.std.proofs.Common.{rules, ◌≡◌, ◌∙◌, Err}
 use Rattle.refusals.specs.declared.Refusal.TheVariants.{WrongLine, WrongNumber}
-use Rattle.lines.proofs.NumberLaws.{line_line, number_key, number_end, number_large, number_low, number_high, number_value}
+use Rattle.lines.proofs.NumberLaws.{line_line, number_key, number_end, number_large, number_outside, number_value, ranged_test}
 use Rattle.lines.proofs.number_line.Goals as goal
-use Rattle.lines.proofs.number_line.Goals.{then-value-low-via-then-value-low, then-value-low-via-else-value-low+then-high-value}
 
 pub returns-in_err-from : goal.returns-in_err-from
 returns-in_err-from c =
@@ -22,12 +21,10 @@ returns-in_err-value c =
     let e : c.from_residual-in_err-value.result ≡ Err WrongNumber = search rules in
     e ∙ number_large _ _ _ _ _ _ c.after_key.ensures c.in_ok-from.from (search rules) _ c.number.ensures c.in_ok-read.read (search rules) (search rules)
 
-pub returns-then-value-low : goal.returns-then-value-low
-returns-then-value-low c =
-    elim c.then-value-low.branch [
-      | then-value-low-via-then-value-low w ↦ number_low _ _ _ _ _ _ c.after_key.ensures c.in_ok-from.from (search rules) _ c.number.ensures c.in_ok-read.read (search rules) _ (search rules) w.if-value-low.true
-      | then-value-low-via-else-value-low+then-high-value w ↦ number_high _ _ _ _ _ _ c.after_key.ensures c.in_ok-from.from (search rules) _ c.number.ensures c.in_ok-read.read (search rules) c.in_ok-value.field-0 (search rules) w.if-value-low.false w.if-high-value.true
-    ]
+pub returns-then-not-contains : goal.returns-then-not-contains
+returns-then-not-contains c =
+    number_outside _ _ _ _ _ _ c.after_key.ensures c.in_ok-from.from (search rules) _ c.number.ensures c.in_ok-read.read (search rules) c.in_ok-value.field-0 (search rules) c.contains.result (ranged_test c.new.result c.args.low c.args.high c.in_ok-value.field-0 _ (search rules) (search rules) (search rules) c.contains.ensures.value) c.if-not-contains.true
 
 pub returns : goal.returns
-returns c = number_value _ _ _ _ _ _ c.after_key.ensures c.in_ok-from.from (search rules) _ c.number.ensures c.in_ok-read.read (search rules) _ (search rules) c.if-value-low.false c.if-high-value.false
+returns c =
+    number_value _ _ _ _ _ _ c.after_key.ensures c.in_ok-from.from (search rules) _ c.number.ensures c.in_ok-read.read (search rules) c.in_ok-value.field-0 (search rules) c.contains.result (ranged_test c.new.result c.args.low c.args.high c.in_ok-value.field-0 _ (search rules) (search rules) (search rules) c.contains.ensures.value) c.if-not-contains.false
