@@ -6,7 +6,7 @@ use Rattle.writing.specs.Spelling.{spelled, field_text}
 use Rattle.answers.specs.declared.Answer.{Answer}
 use Rattle.answers.specs.declared.Answer.TheVariants.{Falls, Jumps, GivesUp, Refused}
 use Rattle.answers.specs.declared.Numbers.{Numbers}
-use Rattle.answers.specs.declared.Text.{Text}
+use Rattle.writing.specs.declared.Text.{Text}
 
 -- "Accepted means falls or jumps"
 abbrev pub AcceptedAnswer : Answer → Type 0
