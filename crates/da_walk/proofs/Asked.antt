@@ -5,6 +5,9 @@ use mathlib.Core.Bool.{Bool, true, false, cond, not, ◌&&◌, or-false}
 use mathlib.Core.List.{List}
 use Prim.Native.Nat.{ℕ, ◌+◌, ◌<◌}
 use borrow.Author.Rules.{rules}
+use Rattle.table.specs.declared.Siblings.{Siblings}
+use Rattle.table.specs.declared.Node.{Node}
+use Rattle.table.specs.Siblings.{forest, First}
 use Rattle.table.specs.Rows.{kind_at, side_at, lo_at, hi_at, end_at, Forest, tree, Nested}
 use Rattle.table.specs.Fold.{fold}
 use Rattle.table.proofs.Tree.{tree_some, tree_alone}
@@ -28,20 +31,20 @@ row_advances : {rows : List ℕ} {from to : ℕ} → Nested rows from to → fro
 unfolding advances_time some fold
 row_advances g h = rw (tree_alone g h) (or-false _)
 
-module _ (ctx : Context) (rows names : List ℕ) (from to : ℕ) (a : State) (b : Bool) (g : StatementIn rows from to) (e : b ≡ not ctx.sole && advances_alone rows from) where
-  stmt_once : da_stmt (da_ctx ctx.local (marks_of names) ctx.sole) (tree rows from to) a ≡ cond b (Err (give_up_at rows from 1)) (da_stmt (untimed ctx names) (tree rows from to) a)
+module _ (ctx : Context) (rows : Siblings) (row : Node) (a : State) (b : Bool) (g : StatementIn rows.table.now rows.from rows.to) (f : First rows row) (e : b ≡ not ctx.sole && advances_alone row.table.now row.at) where
+  stmt_once : da_stmt (da_ctx ctx.local (marks_of ctx.names.now) ctx.sole) (forest rows) a ≡ cond b (Err (give_up_at row.table.now row.at 1)) (da_stmt (untimed ctx) (forest rows) a)
   stmt_once =
-      rw (e, row_advances g.nested g.some, tree_some g.nested g.some)
-      (asked_once ctx.local (marks_of names) ctx.sole (kind_at rows from) (side_at rows from) (lo_at rows from) (hi_at rows from) (tree rows (from + 1) (end_at rows from)) (tree rows (end_at rows from) to) a g.statement)
+      rw (e, f.same, f.starts, row_advances g.nested g.some, tree_some g.nested g.some)
+      (asked_once ctx.local (marks_of ctx.names.now) ctx.sole (kind_at rows.table.now rows.from) (side_at rows.table.now rows.from) (lo_at rows.table.now rows.from) (hi_at rows.table.now rows.from) (tree rows.table.now (rows.from + 1) (end_at rows.table.now rows.from)) (tree rows.table.now (end_at rows.table.now rows.from) rows.to) a g.statement)
 
-  pub stmt_suspends : (stop : DaGiveUp) → b ≡ true → stop ≡ give_up_at rows from 1 → Err stop ≡ da_stmt (da_ctx ctx.local (marks_of names) ctx.sole) (tree rows from to) a
+  pub stmt_suspends : (stop : DaGiveUp) → b ≡ true → stop ≡ give_up_at row.table.now row.at 1 → Err stop ≡ da_stmt (da_ctx ctx.local (marks_of ctx.names.now) ctx.sole) (forest rows) a
   stmt_suspends stop h s = sym (stmt_once ∙ rw (h, s))
 
-  pub stmt_walked : (r : DaResult) → b ≡ false → r ≡ da_stmt (untimed ctx names) (tree rows from to) a → r ≡ da_stmt (da_ctx ctx.local (marks_of names) ctx.sole) (tree rows from to) a
+  pub stmt_walked : (r : DaResult) → b ≡ false → r ≡ da_stmt (untimed ctx) (forest rows) a → r ≡ da_stmt (da_ctx ctx.local (marks_of ctx.names.now) ctx.sole) (forest rows) a
   stmt_walked r h v = v ∙ sym (stmt_once ∙ rw h)
 
--- both clauses of the contract
-pub stmt_told : (x : ℕ) (marks : ℕ → Bool) (sole : Bool) (f : Forest) (a : State) (r : DaResult) → r ≡ da_stmt (da_ctx x marks sole) f a → (r ≡ da_stmt (da_ctx x marks sole) f a) × WalkMeans x marks f a r
-stmt_told x marks sole f a r e = (e, rw e (walk_means x marks sole f a))
+-- what the answer means
+pub stmt_means : (ctx : Context) (f : Forest) (a : State) (r : DaResult) → r ≡ da_stmt (da_ctx ctx.local (marks_of ctx.names.now) ctx.sole) f a → WalkMeans ctx.local (marks_of ctx.names.now) f a r
+stmt_means ctx f a r e = rw e (walk_means ctx.local (marks_of ctx.names.now) ctx.sole f a)
 
 pub ruleset asked = (rules, stmt_suspends, stmt_walked)

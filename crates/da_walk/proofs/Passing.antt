@@ -5,10 +5,11 @@ use mathlib.Core.Bool.{Bool, true, false, not, ◌&&◌}
 use mathlib.Core.List.{List}
 use Prim.Native.Nat.{ℕ, ◌+◌, ◌≤◌, ◌<◌}
 use borrow.Author.Tests.{not-false}
-use Rattle.table.specs.Rows.{kind_at, tree, Nested}
-use Rattle.table.specs.Steps.{RowEnd, NextRow}
-use Rattle.table.proofs.Fold.{fold_next}
-use Rattle.table.proofs.Loops.{Goes}
+use Rattle.table.specs.declared.Siblings.{Siblings}
+use Rattle.table.specs.declared.Node.{Node}
+use Rattle.table.specs.Rows.{kind_at}
+use Rattle.table.specs.Siblings.{forest, First, Children, Alone, Rest}
+use Rattle.table.proofs.Parts.{children_forest, fold_next_part}
 use Rattle.kinds.specs.declared.StmtClass.{StmtClass}
 use Rattle.kinds.specs.Named.{stmt_class}
 use Rattle.da.specs.declared.DaOut.TheVariants.{Falls}
@@ -21,54 +22,50 @@ use Rattle.da_leaf.specs.declared.Construct.{Construct}
 use Rattle.da_leaf.specs.declared.Construct.TheVariants.{Controlled}
 use Rattle.da_leaf.specs.Steps.{construct_of, stays_written}
 use Rattle.da_leaf.proofs.Written.{control_falls}
-use Rattle.da_walk.specs.Steps.{block_in, PassedOver, ControlRow, controlled_at}
-use Rattle.da_walk.proofs.Dispatch.{inner_none, row_walk, inner_stays}
+use Rattle.da_walk.specs.Steps.{block_in, PassedOver, ControlRow, controlled_at, construct_at}
+use Rattle.da_walk.proofs.Dispatch.{inner_none, row_walk, first_walk, inner_stays}
 use Rattle.da_walk.proofs.Branching.{block_on}
 
-pub passed_leaf : (rows : List ℕ) (from to : ℕ) (a b : State)
-    → Nested rows from to
-    → from < to
-    → b ≡ a && stays_written (stmt_class (kind_at rows from))
-    → b ≡ true
-    → PassedOver rows from to a true
-passed_leaf rows from to a b g h e t = record { falls = λ x c names. inner_stays c rows names from to a b g h e t }
+pub passed_leaf : (rows : Siblings) (row : Node) (a b : State) → First rows row → b ≡ a && stays_written (stmt_class (kind_at row.table.now row.at)) → b ≡ true → PassedOver (forest rows) a true
+passed_leaf rows row a b f e t = record { falls = λ x c. inner_stays c rows row f a b e t }
 
 -- a timing control asks nothing of a written local, and its body decides
-module _ (rows : List ℕ) (from to end body n : ℕ) (a : State) (class : StmtClass) (construct : Construct) (g : Nested rows from to) (h : from < to) (w : not a ≡ false)
-    (p : n ≡ kind_at rows from) (q : class ≡ stmt_class n) (e : construct ≡ construct_of class) (s : construct ≡ Controlled) (t : RowEnd rows from to end) (u : NextRow rows (from + 1) end body) where
-  control_walk : (c : Context) (names : List ℕ) → da_stmt (untimed c names) (tree rows from to) a ≡ da_stmt (untimed c names) (tree rows body end) a
-  control_walk c names =
-      row_walk c rows names from to end a class g h t.is (q ∙ rw p)
-      ∙ rw (sym e ∙ s, not-false a w, control_falls c rows names from end class (sym e ∙ s))
-      (sym (ap (λ (x : Walk). x.walk written) (fold_next (walk_at (untimed c names)) no_walk 0 t.children u.is)))
+module _ (rows : Siblings) (row : Node) (below body : Siblings) (n : ℕ) (a : State) (class : StmtClass) (construct : Construct) (f : First rows row) (w : not a ≡ false)
+    (p : n ≡ kind_at row.table.now row.at) (q : class ≡ stmt_class n) (e : construct ≡ construct_of class) (s : construct ≡ Controlled) (h : Children row below) (u : Rest below body) where
+  control_walk : (c : Context) → da_stmt (untimed c) (forest rows) a ≡ da_stmt (untimed c) (forest body) a
+  control_walk c =
+      first_walk c rows row f a class (q ∙ rw p)
+      ∙ rw (sym e ∙ s, not-false a w, control_falls c row.table.now row.at row.end class (sym e ∙ s), children_forest h)
+      (sym (ap (λ (x : Walk). x.walk written) (fold_next_part (walk_at (untimed c)) no_walk 0 u)))
 
-  pub passed_bare : (b : Bool) → end ≤ body → PassedOver rows from to a b
-  passed_bare b l = record { falls = λ x c names. inner_none (untimed c names) rows body end a l ∙ sym (control_walk c names) }
+  pub passed_bare : body.to ≤ body.from → PassedOver (forest rows) a true
+  passed_bare l = record { falls = λ x c. inner_none (untimed c) body a l ∙ sym (control_walk c) }
 
-  pub passed_body : (b : State) → body < end → b ≡ a && stays_written (stmt_class (kind_at rows body)) → PassedOver rows from to a b
-  passed_body b l f = record { falls = λ x c names. inner_stays c rows names body end a b u.others l f x ∙ sym (control_walk c names) }
+  pub passed_body : (b : State) (first : Node) → First body first → b ≡ a && stays_written (stmt_class (kind_at first.table.now first.at)) → PassedOver (forest rows) a b
+  passed_body b first g t = record { falls = λ x c. inner_stays c body first g a b t x ∙ sym (control_walk c) }
 
 pub ruleset passing = (passed_leaf, passed_bare, passed_body)
 
 -- da_block goes on with the row after it
-pub block_stays : (c : Context) (rows names : List ℕ) (from to i : ℕ) (a₀ a b : State) (n : ℕ)
-    → Goes rows from to i (block_in (untimed c names) rows from to a₀) (block_in (untimed c names) rows i to a)
-    → i < to
-    → PassedOver rows i to a b
+pub block_stays : (c : Context) (rows left : Siblings) (a₀ a b : State) (next : Siblings)
+    → block_in (untimed c) (forest rows) a₀ ≡ block_in (untimed c) (forest left) a
+    → left.from < left.to
+    → PassedOver (forest left) a b
     → b ≡ true
-    → RowEnd rows i to n
-    → Goes rows from to n (block_in (untimed c names) rows from to a₀) (block_in (untimed c names) rows n to a)
-block_stays c rows names from to i a₀ a b n w h o t r = block_on (untimed c names) rows from to i a₀ a w (Ok (Falls a)) h (o.falls t c names) (Falls a) a n refl refl r
+    → Rest left next
+    → block_in (untimed c) (forest rows) a₀ ≡ block_in (untimed c) (forest next) a
+block_stays c rows left a₀ a b next w h o t r = block_on (untimed c) rows left a₀ a w (Ok (Falls a)) h (o.falls t c) (Falls a) a next refl refl r
 
 -- da_controlled is done
-pub control_stays : (c : Context) (rows names : List ℕ) (class : StmtClass) (i end : ℕ) (a b : State)
-    → ControlRow rows class i end
-    → PassedOver rows i end a b
+pub control_stays : (c : Context) (row : Node) (alone : Siblings) (class : StmtClass) (a b : State)
+    → ControlRow row.table.now class row.at row.end
+    → Alone row alone
+    → PassedOver (forest alone) a b
     → b ≡ true
-    → Ok (Falls a) ≡ controlled_at (untimed c names) rows class i end a
-control_stays c rows names class i end a b l o t =
-    o.falls t c names
-    ∙ row_walk c rows names i end end a class l.row l.after l.leaf.row.is l.leaf.is
-    ∙ rw l.controlled
+    → Ok (Falls a) ≡ controlled_at (untimed c) row.table.now class row.at row.end a
+control_stays c row alone class a b l m o t =
+    let walk : da_stmt (untimed c) (forest alone) a ≡ construct_at (untimed c) row.table.now class row.at row.end a (construct_of class) =
+    rw (m.same, m.starts, m.ends) (row_walk c row.table.now row.at row.end row.end a class row.alone.alone row.alone.after row.alone.is l.leaf.is) in
+    o.falls t c ∙ walk ∙ rw l.controlled
 
 pub ruleset passing_over = (block_stays, control_stays)

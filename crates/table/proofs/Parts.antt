@@ -7,11 +7,12 @@ use Rattle.table.specs.Rows.{kind_at, side_at, lo_at, hi_at, end_at, Forest, nil
 use Rattle.table.specs.Steps.{next_of}
 use Rattle.table.specs.Siblings.{forest, First, Children, Rest, Head}
 use Rattle.table.specs.Fold.{Alg, fold, nth, tail}
-use Rattle.table.proofs.Fold.{fold_first, fold_next, fold_tail}
+use Rattle.table.proofs.Fold.{fold_step, fold_first, fold_next, fold_tail}
+use mathlib.Core.List.{◌∷◌}
 use native.Mathlib.Omega.{arith}
-use mathlib.Core.Bool.{Bool, true, false, not}
+use mathlib.Core.Bool.{Bool, true, false}
 use lib.Dec.{leb}
-use borrow.Author.Tests.{lt-ltb, leb-true, leb-false, not-true, not-false}
+use borrow.Author.Tests.{lt-ltb, leb-true, leb-false}
 use Rattle.table.proofs.Ranges.{ends_after}
 use Rattle.table.proofs.Tree.{tree_none, tree_some, tree_next}
 
@@ -35,6 +36,10 @@ pub forest_some : {rows : Siblings} {row : Node} {below : Siblings}
     ≡ node (kind_at row.table.now row.at) (side_at row.table.now row.at) (lo_at row.table.now row.at) (hi_at row.table.now row.at) (forest below) (tree row.table.now row.end rows.to)
 forest_some {rows} {row} {below} f b = rw (b.same, b.starts, b.ends, f.same, f.starts, f.ends) (tree_some rows.nested f.some)
 
+-- what a row holds
+pub children_forest : {row : Node} {below : Siblings} → Children row below → tree row.table.now (row.at + 1) row.end ≡ forest below
+children_forest b = rw (b.same, b.starts, b.ends)
+
 -- those after the first
 pub forest_rest : {rows after : Siblings} → Rest rows after → forest after ≡ rest (forest rows)
 forest_rest {rows} {after} r = rw (r.same, r.ends) (tree_next after.from rows.nested r.starts)
@@ -45,11 +50,11 @@ rest_after {rows} {after} h r = let e : after.from ≡ end_at rows.table.now row
 
 -- what a loop that asks whether any are left knows
 module _ (rows : Siblings) (b : Bool) (e : b ≡ leb rows.to rows.from) where
-  pub some_left : not b ≡ true → rows.from < rows.to
-  some_left n = leb-false rows.to rows.from (sym e ∙ not-true b n)
+  pub some_left : b ≡ false → rows.from < rows.to
+  some_left n = leb-false rows.to rows.from (sym e ∙ n)
 
-  pub none_left : not b ≡ false → rows.to ≤ rows.from
-  none_left n = leb-true rows.to rows.from (sym e ∙ not-false b n)
+  pub none_left : b ≡ true → rows.to ≤ rows.from
+  none_left n = leb-true rows.to rows.from (sym e ∙ n)
 
 -- folds: of the first alone, of those after it, and of one of these
 module _ {A : Type 0} (alg : Alg A) (d : A) where
@@ -62,3 +67,7 @@ module _ {A : Type 0} (alg : Alg A) (d : A) where
 module _ {A : Type 0} (alg : Alg A) where
   pub fold_rest_part : {rows after : Siblings} → Rest rows after → fold alg (forest after) ≡ tail (fold alg (forest rows))
   fold_rest_part {rows} {after} r = rw (r.same, r.ends) (fold_tail alg rows.nested r.starts)
+
+module _ {A : Type 0} (alg : Alg A) (d : A) where
+  pub fold_step_part : {rows after : Siblings} → rows.from < rows.to → Rest rows after → fold alg (forest rows) ≡ nth d 0 (fold alg (forest rows)) ∷ fold alg (forest after)
+  fold_step_part {rows} {after} h r = rw (r.same, r.ends) (fold_step alg d rows.nested h (r.starts ∙ rw (lt-ltb rows.from rows.to h)))

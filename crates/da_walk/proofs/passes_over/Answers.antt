@@ -2,10 +2,10 @@ use Rattle.da_walk.proofs.Passing.{passing}
 use Rattle.da_walk.proofs.passes_over.Goals as goal
 
 pub returns-then-stays_written : goal.returns-then-stays_written
-returns-then-stays_written c = search passing
+returns-then-stays_written c = search (passing, c.in-Some.ensures.some)
 
-pub returns-then-end-body : goal.returns-then-end-body
-returns-then-end-body c = search passing
+pub returns-in-Some-first : goal.returns-in-Some-first
+returns-in-Some-first c = search (passing, c.in-Some.ensures.some, c.in-Some-first.ensures.some)
 
-pub returns-else-end-body : goal.returns-else-end-body
-returns-else-end-body c = search passing
+pub returns-in-None : goal.returns-in-None
+returns-in-None c = search (passing, c.in-Some.ensures.some, c.in-None.ensures.none)
