@@ -32,7 +32,7 @@ fn key_of(t: &[u8]) -> KeyRead
         if !b.is_ascii_lowercase() {
             return KeyRead { value, count };
         }
-        value += u64::from(*b - 96) * scale;
+        value += (u64::from(*b) - 96) * scale;
         scale *= 32;
     }
     KeyRead {
