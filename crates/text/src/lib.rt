@@ -37,6 +37,7 @@ fn rest(s: &[u8], at: usize) -> &[u8]
 }
 
 // The place after this byte, if it stands at a place.
+#[tactic(auto, using(crate::proofs::Places::byte_past, crate::proofs::Places::byte_is, crate::proofs::Places::byte_other))]
 pub fn after_byte(s: &[u8], at: usize, byte: u8) -> Option<usize>
     ensures { result ≡ after_byte byte s.now at }
 {
@@ -61,6 +62,7 @@ fn first_stop(t: &[u8], sep: u8) -> Option<usize>
 }
 
 // The place of the first byte `sep` or byte 10 from a place on, or the end.
+#[tactic(auto, using(crate::proofs::Stops::stop_found))]
 pub fn stop_at(s: &[u8], at: usize, sep: u8) -> usize
     requires { sep ≤ 32 }
     ensures { result ≡ stop_at sep s.now at }
@@ -137,6 +139,7 @@ pub fn number(s: &[u8], at: usize, sep: u8, end: u8) -> Option<Field>
 }
 
 // The place after a key, if it stands at a place.
+#[tactic(auto, using(crate::proofs::Places::begins, crate::proofs::Places::key_is, crate::proofs::Places::key_other))]
 pub fn after_key(s: &[u8], at: usize, key: &[u8]) -> Option<usize>
     requires { 0 < length key.now }
     ensures { result ≡ after_key key.now s.now at }
@@ -177,6 +180,7 @@ pub fn graphic_line(s: &[u8], at: usize) -> Option<GraphicLine>
 }
 
 // Whether the first text comes before the second in byte order.
+#[tactic(auto, using(crate::proofs::Order::in_order))]
 pub fn is_below(a: &[u8], b: &[u8]) -> bool
     ensures { result ≡ below a.now b.now }
 {
