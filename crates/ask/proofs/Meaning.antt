@@ -8,8 +8,7 @@ use native.Mathlib.Omega.{arith}
 use lib.Dec.{eqb, leb}
 use lib.ListN.{length}
 use borrow.Author.Tests.{leb-true}
-use Rattle.checks.specs.declared.Checked.{Checked}
-use Rattle.checks.specs.declared.Checked.TheVariants as C
+use Rattle.checks.specs.Checks.{Checked}
 use Rattle.checks.specs.Steps.{Held}
 use Rattle.checks.proofs.Places.{Within, checked_place}
 use Rattle.refusals.specs.declared.Refusal.TheVariants.{WrongRecord, WrongTable}
@@ -47,8 +46,8 @@ table_place r rows h = checked_place rows r.rows h r.names
 
 module _ (r : Record) (rows names : List ℕ) where
   checked_to : (c : Checked) → Within 0 r.rows 9 c → AskedTo r rows names (after_table c (walk_answer (walked r rows names)))
-  checked_to C.Passed w = walks
-  checked_to (C.Refused refusal row) w = no_table row (w.row refusal row refl).1
+  checked_to (Ok u) w = walks
+  checked_to (Err refused) w = no_table refused.place (w.row refused.refusal refused.place refl).1
 
   marked_to : Held rows r.rows → (b : Bool) → AskedTo r rows names (cond b (table_answer r rows names) (Refused WrongTable 0))
   marked_to h true = checked_to (table_checked r rows) (table_place r rows h)

@@ -1,12 +1,13 @@
 -- What the functions answer, from what stands in the code where they return; the loops go from row to row, by the steps of Gather. What
 -- the yes of `stmt_cannot_escape` means, and the arms of the Rust, are cited. Nothing recurses here.
-use Prim.Native.Nat.{ℕ, ◌-◌, ◌<◌}
+use Prim.Native.Nat.{ℕ, ◌+◌, ◌-◌, ◌<◌, ◌≤◌}
 use mathlib.Core.Path.{◌≡◌, refl, sym, ap, ◌∙◌}
 use mathlib.Core.Bool.{Bool, true, false, ◌&&◌, ◌||◌, not}
 use mathlib.Core.List.{List}
 use native.Mathlib.Omega.{arith}
 use lib.Dec.{eqb, leb}
-use borrow.Author.Tests.{eqb-true}
+use Rattle.table.proofs.Ranges.{later}
+use borrow.Author.Tests.{le-leb, lt-leb, eqb-true}
 use Rattle.table.specs.Rows.{kind_at, side_at, end_at, tree, Nested}
 use Rattle.table.specs.Fold.{Alg, fold, nth}
 use Rattle.table.proofs.Fold.{fold_none, fold_some, fold_step}
@@ -17,8 +18,8 @@ use Rattle.kinds.proofs.Below.{both_true}
 use Rattle.checks.specs.Checks.{kind_alone}
 use Rattle.loops.specs.Escape.{transfers, cannot_escape_at, cannot_escape, stmt_cannot_escape, EscapeTold}
 use Rattle.loops.specs.Time.{waiting_words, is_one_of, lets_time_pass, advances_at, advances_time, stmt_advances_time, TimeTold}
-use Rattle.loops.proofs.Gather.{Gather, by_and, by_or, flat_numbers}
-use Rattle.std.specs.List.{range_with_len, list_all, list_any}
+use Rattle.loops.proofs.Gather.{Gather, by_and, by_or, flat_numbers, flat_none, flat_step}
+use Rattle.std.specs.List.{range_with_len, list_any}
 use Rattle.loops.proofs.Places.{class_of, Told, Rows, no_further_row, row}
 use Rattle.loops.proofs.Staying.{never_jumps, stay_first}
 use Rattle.loops.proofs.EscapeArms.{arms_escape}
@@ -32,14 +33,26 @@ pub time_numbers : (k s : ℕ) → lets_time_pass k s ≡ by_number k s
 unfolding lets_time_pass is_one_of waiting_words numbered kind_number kind_of place_from kinds same
 time_numbers k s = refl
 
--- the passes over the rows of a range
-pub escape_all : {rows : List ℕ} {from to : ℕ} {r : Bool}
-    → Nested rows from to
-    → r ≡ list_all (λ i. not (transfers (stmt_class (kind_at rows i)))) (range_with_len from (to - from))
-    → r ≡ cannot_escape (tree rows from to)
-unfolding cannot_escape cannot_escape_at
-escape_all {rows} {from} {to} g e = e ∙ flat_numbers by_and (λ k s cs. not (transfers (stmt_class k))) (list_all (λ i. not (transfers (stmt_class (kind_at rows i))))) refl (λ i is. refl) (to - from) refl g
+-- first_transfer: what its loop keeps is that the answer is that of the rows from i on
+module _ (rows : List ℕ) (from to i : ℕ) (g : Nested rows from to) (v : cannot_escape (tree rows from to) ≡ cannot_escape (tree rows i to)) where
+  pub escape_done : to ≤ i → leb to to ≡ cannot_escape (tree rows from to)
+  unfolding cannot_escape cannot_escape_at
+  escape_done h = le-leb to to (omega arith) ∙ sym (v ∙ flat_none by_and (λ k s cs. not (transfers (stmt_class k))) rows i to h)
 
+  module _ (h : i < to) (l : from ≤ i) (b : Bool) (e : b ≡ transfers (stmt_class (kind_at rows i))) where
+    escape_row : cannot_escape (tree rows from to) ≡ not b && cannot_escape (tree rows (i + 1) to)
+    unfolding cannot_escape cannot_escape_at
+    escape_row = v ∙ rw e (flat_step by_and (λ k s cs. not (transfers (stmt_class k))) (later g i l (omega arith)) h)
+
+    pub escape_hit : b ≡ true → leb to i ≡ cannot_escape (tree rows from to)
+    escape_hit y = lt-leb to i h ∙ sym (escape_row ∙ rw y)
+
+    pub escape_miss : b ≡ false → cannot_escape (tree rows from to) ≡ cannot_escape (tree rows (i + 1) to)
+    escape_miss y = escape_row ∙ rw y
+
+pub ruleset scan_answers = (escape_done, escape_hit, escape_miss)
+
+-- the pass of stmt_advances_time
 pub time_any : {rows : List ℕ} {from to : ℕ} {r : Bool}
     → Nested rows from to
     → r ≡ list_any (λ i. lets_time_pass (kind_at rows i) (side_at rows i)) (range_with_len from (to - from))
