@@ -25,6 +25,7 @@ use Rattle.reads.specs.Mentions.{refers}
 use Rattle.reads.specs.NoRef.{vetting, vetted, stmt_no_ref}
 use Rattle.expr_effect.specs.Law.{no_facts}
 use Rattle.expr_effect.proofs.Facts.{part_refers}
+use Rattle.da.specs.declared.Reason.TheVariants.{ControlReads}
 use Rattle.da.specs.declared.DaOut.TheVariants.{Falls}
 use Rattle.da.specs.declared.DaGiveUp.{DaGiveUp}
 use Rattle.std.specs.Prelude.{Ok, Err}
@@ -69,7 +70,7 @@ module _ (x : ℕ) (row : Node) (below event : Siblings) (a : State) (b : Bool) 
   control_asks : not (is_written a) && (fact_in x row.table.now (row.at + 1) row.end).refers ≡ b
   control_asks = rw (← c.same, ← c.starts, ← c.ends, part_refers x t) (sym e)
 
-  pub control_stops : (stop : DaGiveUp) → b ≡ true → stop ≡ give_up_at row.table.now row.at 8 → Err stop ≡ event_control_at x row.table.now row.at row.end a
+  pub control_stops : (stop : DaGiveUp) → b ≡ true → stop ≡ give_up_at row.table.now row.at ControlReads → Err stop ≡ event_control_at x row.table.now row.at row.end a
   control_stops stop h s = rw (control_asks, h, s)
 
   pub control_goes : b ≡ false → Ok (Falls a) ≡ event_control_at x row.table.now row.at row.end a

@@ -20,6 +20,7 @@ use Rattle.reads.specs.Mentions.{refers}
 use Rattle.reads.specs.NoRef.{lvalue_no_ref}
 use Rattle.expr_effect.specs.Law.{ExprFacts, no_facts, facts_at, is_plain}
 use Rattle.expr_effect.proofs.Facts.{fact_none, fact_plain, part_refers}
+use Rattle.da.specs.declared.Reason.TheVariants.{SharedNet, EventReads, PartWritten}
 use Rattle.da.specs.declared.DaOut.{DaOut}
 use Rattle.da.specs.declared.DaOut.TheVariants.{Falls}
 use Rattle.da.specs.declared.DaGiveUp.{DaGiveUp}
@@ -75,11 +76,11 @@ module _ (x : ℕ) (row : Node) (target : Siblings) (after a : State) (p : Bool)
       → Head target alone
       → clear ≡ lvalue_no_ref x (forest alone)
       → g ≡ cond (not clear) a after
-      → r ≡ only_written_at row.table.now row.at 4 g
+      → r ≡ only_written_at row.table.now row.at PartWritten g
       → r ≡ target_at x row target after a
   target_other alone clear g r h s c v w =
       w
-      ∙ sym (written_falls g (give_up_at row.table.now row.at 4))
+      ∙ sym (written_falls g (give_up_at row.table.now row.at PartWritten))
       ∙ sym (rw (← e, h, part_refers x s, ← not-not (refers Skipped x (forest alone)), ← c, ← v))
 
 -- da_assign: the write of the right side counts where the target does not refer
@@ -109,7 +110,7 @@ module _ (x : ℕ) (row : Node) (event alone : Siblings) (a b : State) (t : Head
   event_asks : not (is_written a) && (fact_of x event).refers ≡ b
   event_asks = rw (part_refers x t) (sym e)
 
-  pub event_stops : (stop : DaGiveUp) → b ≡ true → stop ≡ give_up_at row.table.now row.at 3 → Err stop ≡ event_at x row event a
+  pub event_stops : (stop : DaGiveUp) → b ≡ true → stop ≡ give_up_at row.table.now row.at EventReads → Err stop ≡ event_at x row event a
   event_stops stop h s = rw (event_asks, h, s)
 
   pub event_goes : (target : Siblings) (r : DaResult) → b ≡ false → Rest event target → r ≡ assign_at x row target a → r ≡ event_at x row event a
@@ -144,7 +145,7 @@ module _ (e : ExprFacts) (a : State) (q : Result States DaGiveUp) (v : q ≡ eva
 
 -- da_nonblocking
 module _ (ctx : Context) (row : Node) (a : State) where
-  pub shared_stops : (stop : DaGiveUp) → not ctx.sole ≡ true → stop ≡ give_up_at row.table.now row.at 1 → Err stop ≡ nonblocking_at ctx row.table.now row.at row.end a
+  pub shared_stops : (stop : DaGiveUp) → not ctx.sole ≡ true → stop ≡ give_up_at row.table.now row.at SharedNet → Err stop ≡ nonblocking_at ctx row.table.now row.at row.end a
   shared_stops stop h e = rw (h, e)
 
   pub sole_goes : (below event target right : Siblings) (r : DaResult)

@@ -11,13 +11,13 @@ ghost use Rattle.sheet_record.specs.Records.{marks_of};
 ghost use Rattle.da_rows.specs.Steps.{untimed, fact_of};
 ghost use Rattle.da_leaf.specs.Steps.{only_written_at, is_lident, target_at, assign_at, event_at, blocking_at, scheduled, nonblocking_at, return_at, task_at, disable_at, event_control_at, construct_of, stays_written, construct_from, LeafRow, referring_at, leaf_at};
 
-use da::{CallEffect, DaOut, DaResult};
+use da::{CallEffect, DaOut, DaResult, Reason};
 use da_rows::Context;
 use kinds::{ExprClass, StmtClass};
 use table::{Node, Siblings};
 
 // A statement that is accepted only where the local is written.
-fn only_written(row: Node, reason: u32, assigned: bool) -> DaResult
+fn only_written(row: Node, reason: Reason, assigned: bool) -> DaResult
     ensures { result ≡ only_written_at row.entry.table.now row.entry.at reason assigned }
 {
     if assigned {
@@ -65,7 +65,7 @@ fn da_target(row: Node, target: Siblings, local: usize, after: bool, assigned: b
         return Ok(DaOut::Falls(true)); // whatever it was before
     }
     let clear = reads::no_ref(target.head(), local);
-    only_written(row, 4, gained(!clear, after, assigned))
+    only_written(row, Reason::PartWritten, gained(!clear, after, assigned))
 }
 
 // A blocking assignment in a row from its right side on; these are its target and right side.
@@ -81,7 +81,7 @@ fn da_event(row: Node, event: Siblings, local: usize, assigned: bool) -> DaResul
     ensures { result ≡ event_at local row.entry event.entry assigned }
 {
     if da_rows::refers_unwritten(event.head(), local, assigned) {
-        return Err(da_rows::give_up(row, 3));
+        return Err(da_rows::give_up(row, Reason::EventReads));
     }
     da_assign(row, event.rest(), local, assigned)
 }
@@ -108,7 +108,7 @@ fn da_nonblocking(ctx: &Context, row: Node, assigned: bool) -> DaResult
     ensures { result ≡ nonblocking_at ctx.now row.entry.table.now row.entry.at row.entry.end assigned }
 {
     if !ctx.sole {
-        return Err(da_rows::give_up(row, 1));
+        return Err(da_rows::give_up(row, Reason::SharedNet));
     }
     let event = row.children().rest();
     let target = event.rest();
@@ -141,8 +141,8 @@ fn da_task(row: Node, assigned: bool) -> DaResult
     match call_effect(row.side()) {
         CallEffect::Inert => Ok(DaOut::Falls(assigned)),
         CallEffect::Writes => Ok(DaOut::Falls(true)),
-        CallEffect::Reads => only_written(row, 6, assigned),
-        CallEffect::Unknown => only_written(row, 7, assigned),
+        CallEffect::Reads => only_written(row, Reason::TaskReads, assigned),
+        CallEffect::Unknown => only_written(row, Reason::TaskUnknown, assigned),
     }
 }
 
@@ -181,7 +181,7 @@ fn da_eventctrl(row: Node, local: usize, assigned: bool) -> DaResult
     ensures { result ≡ event_control_at local row.entry.table.now row.entry.at row.entry.end assigned }
 {
     if da_rows::refers_unwritten(row.children().head(), local, assigned) {
-        return Err(da_rows::give_up(row, 8));
+        return Err(da_rows::give_up(row, Reason::ControlReads));
     }
     Ok(DaOut::Falls(assigned))
 }
@@ -273,9 +273,9 @@ pub fn da_referring(ctx: &Context, row: Node, class: StmtClass, assigned: bool) 
         ),
         StmtClass::Delayctrl => da_rows::unless_held_read(row.children(), ctx.local, assigned),
         StmtClass::Eventctrl => da_eventctrl(row, ctx.local, assigned),
-        StmtClass::Fork => only_written(row, 5, assigned),
+        StmtClass::Fork => only_written(row, Reason::Forks, assigned),
         StmtClass::Systask | StmtClass::Unmodelled | StmtClass::Null => {
-            only_written(row, 9, assigned)
+            only_written(row, Reason::NotModelled, assigned)
         }
         _ => Ok(DaOut::Falls(assigned)),
     }

@@ -12,7 +12,7 @@ ghost use Rattle.da.specs.declared.DaOut.TheVariants.{Falls};
 ghost use Rattle.da.specs.Walk.{unless_read, unless_one_read, falls_written};
 ghost use Rattle.da_rows.specs.Steps.{facts_in, facts_of, fact_of, held_of, read_in, always as always_of, evaluation, give_up_at, part_of_class, part_of_row, part_of, is_default_part, is_absent_part, first_labels, case_out, body_assigns};
 
-use da::{DaGiveUp, DaOut, DaResult};
+use da::{DaGiveUp, DaOut, DaResult, Reason};
 use effect_rules::ExprDa;
 use kinds::StmtClass;
 use table::{Node, Siblings};
@@ -47,7 +47,7 @@ impl States {
 }
 
 // A give-up at a row.
-pub fn give_up(row: Node, reason: u32) -> DaGiveUp
+pub fn give_up(row: Node, reason: Reason) -> DaGiveUp
     ensures { result ≡ give_up_at row.entry.table.now row.entry.at reason }
 {
     DaGiveUp {
@@ -62,9 +62,9 @@ fn read_at(rows: Siblings) -> DaGiveUp
     ensures { result ≡ read_in rows.entry }
 {
     match rows.first() {
-        Some(row) => give_up(row, 2),
+        Some(row) => give_up(row, Reason::ReadUnwritten),
         None => DaGiveUp {
-            reason: 2,
+            reason: Reason::ReadUnwritten,
             lo: 0,
             hi: 0,
         },

@@ -13,6 +13,7 @@ use Rattle.table.specs.Fold.{fold}
 use Rattle.table.proofs.Tree.{tree_some, tree_alone}
 use Rattle.reads.specs.Mentions.{some}
 use Rattle.loops.specs.Time.{advances_at, advances, advances_time}
+use Rattle.da.specs.declared.Reason.TheVariants.{SharedNet}
 use Rattle.da.specs.declared.DaGiveUp.{DaGiveUp}
 use Rattle.std.specs.Prelude.{Err}
 use Rattle.da.specs.Outcome.{DaResult, State}
@@ -32,12 +33,12 @@ unfolding advances_time some fold
 row_advances g h = rw (tree_alone g h) (or-false _)
 
 module _ (ctx : Context) (rows : Siblings) (row : Node) (a : State) (b : Bool) (g : StatementIn rows.table.now rows.from rows.to) (f : First rows row) (e : b ≡ not ctx.sole && advances_alone row.table.now row.at) where
-  stmt_once : da_stmt (da_ctx ctx.local (marks_of ctx.names.now) ctx.sole) (forest rows) a ≡ cond b (Err (give_up_at row.table.now row.at 1)) (da_stmt (untimed ctx) (forest rows) a)
+  stmt_once : da_stmt (da_ctx ctx.local (marks_of ctx.names.now) ctx.sole) (forest rows) a ≡ cond b (Err (give_up_at row.table.now row.at SharedNet)) (da_stmt (untimed ctx) (forest rows) a)
   stmt_once =
       rw (e, f.same, f.starts, row_advances g.nested g.some, tree_some g.nested g.some)
       (asked_once ctx.local (marks_of ctx.names.now) ctx.sole (kind_at rows.table.now rows.from) (side_at rows.table.now rows.from) (lo_at rows.table.now rows.from) (hi_at rows.table.now rows.from) (tree rows.table.now (rows.from + 1) (end_at rows.table.now rows.from)) (tree rows.table.now (end_at rows.table.now rows.from) rows.to) a g.statement)
 
-  pub stmt_suspends : (stop : DaGiveUp) → b ≡ true → stop ≡ give_up_at row.table.now row.at 1 → Err stop ≡ da_stmt (da_ctx ctx.local (marks_of ctx.names.now) ctx.sole) (forest rows) a
+  pub stmt_suspends : (stop : DaGiveUp) → b ≡ true → stop ≡ give_up_at row.table.now row.at SharedNet → Err stop ≡ da_stmt (da_ctx ctx.local (marks_of ctx.names.now) ctx.sole) (forest rows) a
   stmt_suspends stop h s = sym (stmt_once ∙ rw (h, s))
 
   pub stmt_walked : (r : DaResult) → b ≡ false → r ≡ da_stmt (untimed ctx) (forest rows) a → r ≡ da_stmt (da_ctx ctx.local (marks_of ctx.names.now) ctx.sole) (forest rows) a

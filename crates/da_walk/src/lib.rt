@@ -11,7 +11,7 @@ ghost use Rattle.da_rows.specs.Steps.{untimed};
 ghost use Rattle.da_walk.specs.Statement.{StatementIn};
 ghost use Rattle.da_walk.specs.Steps.{block_in, if_in, branches_in, else_in, case_in, arms_in, arm_in, PassedOver, ControlRow, controlled_at, rounds_at, for_at, while_at, repeat_at, forever_at, advances_alone};
 
-use da::{DaOut, DaResult};
+use da::{DaOut, DaResult, Reason};
 use da_leaf::Construct;
 use da_rows::{Context, States};
 use kinds::StmtClass;
@@ -231,7 +231,7 @@ pub fn da_stmt(ctx: &Context, rows: Siblings, assigned: bool) -> DaResult
 {
     let row = rows.first().unwrap();
     if suspends(ctx, row) {
-        return Err(da_rows::give_up(row, 1));
+        return Err(da_rows::give_up(row, Reason::SharedNet));
     }
     da_inner(ctx, rows, assigned)
 }
