@@ -17,7 +17,7 @@ use Rattle.sheet_record.specs.Records.{record_fits, marks_of, record_held, marks
 use Rattle.sheet_record.proofs.Ranges.{fits_rows}
 use Rattle.da.specs.declared.DaOut.TheVariants as O
 use Rattle.std.specs.Prelude.{Ok, Err}
-use Rattle.da.specs.Outcome.{DaResult, State, Accepted}
+use Rattle.da.specs.Outcome.{DaResult, reason_number, State, Accepted}
 use Rattle.da.specs.Walk.{da_ctx}
 use Rattle.da.proofs.Reasons.{Reasoned, goes_on, stops, nine_reasons}
 use Rattle.soundness.proofs.Demand3.{walk_means}
@@ -80,7 +80,7 @@ walk_jumps (Err stop) h = cc
 reasoned_numbers : {d : DaResult} → Reasoned d → WalkNumbers (numbers_of (walk_answer d))
 reasoned_numbers (goes_on (O.Falls a)) = falls a
 reasoned_numbers (goes_on O.Jumps) = jumps
-reasoned_numbers (stops reason lo hi l m) = gives_up reason lo hi l m
+reasoned_numbers (stops reason lo hi l m) = gives_up (reason_number reason) lo hi l m
 
 pub walk_numbers : (r : Record) (rows names : List ℕ) → WalkNumbers (numbers_of (walk_answer (walked r rows names)))
 walk_numbers r rows names = reasoned_numbers (nine_reasons (da_ctx r.local (marks_of names) (eqb r.sole 1)) (row_tree r rows) (start_of r))

@@ -2,6 +2,8 @@
 use Rattle.std.specs.Prelude.{Bool, true, false, ◌&&◌, ◌||◌, ℕ, Result, Ok, Err}
 use Rattle.da.specs.declared.DaOut.{DaOut}
 use Rattle.da.specs.declared.DaOut.TheVariants.{Falls, Jumps}
+use Rattle.da.specs.declared.Reason.{Reason}
+use Rattle.da.specs.declared.Reason.TheVariants.{SharedNet, ReadUnwritten, EventReads, PartWritten, Forks, TaskReads, TaskUnknown, ControlReads, NotModelled}
 use Rattle.da.specs.declared.DaGiveUp.{DaGiveUp}
 
 -- "type DaResult = Result<DaOut, DaGiveUp>;"
@@ -54,8 +56,29 @@ abbrev pub go_on : (State → DaResult) → DaOut → DaResult
 go_on next (Falls a) = next a
 go_on next Jumps = Ok Jumps
 
--- DaGiveUp::at: a reason by its number in document 01, with a span
-abbrev pub give_up : ℕ → ℕ → ℕ → DaResult
+-- document 01's number of a reason
+abbrev pub reason_number : Reason → ℕ
+-- "shared net and time can advance"
+reason_number SharedNet = 1
+-- "read before any write"
+reason_number ReadUnwritten = 2
+-- "event on an assignment"
+reason_number EventReads = 3
+-- "only part written"
+reason_number PartWritten = 4
+-- "fork"
+reason_number Forks = 5
+-- "call reads"
+reason_number TaskReads = 6
+-- "call unknown"
+reason_number TaskUnknown = 7
+-- "event control"
+reason_number ControlReads = 8
+-- "form not modelled"
+reason_number NotModelled = 9
+
+-- DaGiveUp::at: a reason, with a span
+abbrev pub give_up : Reason → ℕ → ℕ → DaResult
 give_up reason lo hi = Err (record { reason = reason; lo = lo; hi = hi })
 
 -- "Accepted means falls or jumps"

@@ -11,10 +11,24 @@ pub enum DaOut {
     Jumps,
 }
 
+// Why the walk gives up, each with document 01's number.
+#[derive(Clone, Copy)]
+pub enum Reason {
+    SharedNet = 1,
+    ReadUnwritten = 2,
+    EventReads = 3,
+    PartWritten = 4,
+    Forks = 5,
+    TaskReads = 6,
+    TaskUnknown = 7,
+    ControlReads = 8,
+    NotModelled = 9,
+}
+
 // Where and why the walk stopped.
 #[derive(Clone, Copy)]
 pub struct DaGiveUp {
-    pub reason: u32,
+    pub reason: Reason,
     pub lo: u32,
     pub hi: u32,
 }

@@ -25,6 +25,7 @@ use Rattle.sheet_record.specs.Records.{marks_of}
 use Rattle.da.specs.declared.DaOut.TheVariants.{Falls}
 use Rattle.da.specs.declared.DaGiveUp.{DaGiveUp}
 use Rattle.std.specs.Prelude.{Ok, Err}
+use Rattle.da.specs.declared.Reason.TheVariants.{ControlReads}
 use Rattle.da.specs.Outcome.{DaResult, State, is_written}
 use Rattle.da.specs.Walk.{DaCtx, held_facts, walk_of}
 use Rattle.da_rows.specs.declared.Context.{Context}
@@ -77,7 +78,7 @@ module _ (x : ℕ) (rows : List ℕ) (i end n : ℕ) (a : State) (b : Bool) (g :
   control_asks : not (is_written a) && (fact_in x rows (i + 1) end).refers ≡ b
   control_asks = rw (fact_refers x g.children n t.is) (sym e)
 
-  pub control_stops : (stop : DaGiveUp) → b ≡ true → stop ≡ give_up_at rows i 8 → Err stop ≡ event_control_at x rows i end a
+  pub control_stops : (stop : DaGiveUp) → b ≡ true → stop ≡ give_up_at rows i ControlReads → Err stop ≡ event_control_at x rows i end a
   control_stops stop h s = rw (control_asks, h, s)
 
   pub control_goes : b ≡ false → Ok (Falls a) ≡ event_control_at x rows i end a

@@ -22,6 +22,7 @@ use Rattle.da.specs.declared.DaOut.{DaOut}
 use Rattle.da.specs.declared.DaOut.TheVariants.{Falls}
 use Rattle.da.specs.declared.DaGiveUp.{DaGiveUp}
 use Rattle.std.specs.Prelude.{Result, Ok, Err}
+use Rattle.da.specs.declared.Reason.TheVariants.{SharedNet, EventReads, PartWritten}
 use Rattle.da.specs.Outcome.{DaResult, State, is_written, gains, ◌▷◌}
 use Rattle.da.specs.Walk.{expr_out_writes, unless_one_read}
 use Rattle.da_rows.specs.declared.Context.{Context}
@@ -71,11 +72,11 @@ module _ (x : ℕ) (rows : List ℕ) (i from to : ℕ) (after a : State) (p : Bo
       → NextRow rows from to n
       → clear ≡ lvalue_no_ref x (tree rows from n)
       → g ≡ cond (not clear) a after
-      → r ≡ only_written_at rows i 4 g
+      → r ≡ only_written_at rows i PartWritten g
       → r ≡ target_at x rows i from to after a
   target_other n clear g r h t s c v w =
       w
-      ∙ sym (written_falls g (give_up_at rows i 4))
+      ∙ sym (written_falls g (give_up_at rows i PartWritten))
       ∙ sym (rw (← e, h, fact_refers x t n s.is, ← not-not (refers Skipped x (tree rows from n)), ← c, ← v))
 
 -- da_assign: the write of the right side counts where the target does not refer
@@ -105,7 +106,7 @@ module _ (x : ℕ) (rows : List ℕ) (i from to n : ℕ) (a b : State) (g : Nest
   event_asks : not (is_written a) && (fact_in x rows from to).refers ≡ b
   event_asks = rw (fact_refers x g n t.is) (sym e)
 
-  pub event_stops : (stop : DaGiveUp) → b ≡ true → stop ≡ give_up_at rows i 3 → Err stop ≡ event_at x rows i from to a
+  pub event_stops : (stop : DaGiveUp) → b ≡ true → stop ≡ give_up_at rows i EventReads → Err stop ≡ event_at x rows i from to a
   event_stops stop h s = rw (event_asks, h, s)
 
   pub event_goes : (r : DaResult) → b ≡ false → r ≡ assign_at x rows i n to a → r ≡ event_at x rows i from to a
@@ -140,7 +141,7 @@ module _ (e : ExprFacts) (a : State) (q : Result States DaGiveUp) (v : q ≡ eva
 
 -- da_nonblocking
 module _ (ctx : Context) (rows : List ℕ) (i end : ℕ) (a : State) where
-  pub shared_stops : (stop : DaGiveUp) → not ctx.sole ≡ true → stop ≡ give_up_at rows i 1 → Err stop ≡ nonblocking_at ctx rows i end a
+  pub shared_stops : (stop : DaGiveUp) → not ctx.sole ≡ true → stop ≡ give_up_at rows i SharedNet → Err stop ≡ nonblocking_at ctx rows i end a
   shared_stops stop h e = rw (h, e)
 
   pub sole_goes : (l m n : ℕ) (r : DaResult)

@@ -11,12 +11,12 @@ ghost use Rattle.sheet_record.specs.Records.{marks_of};
 ghost use Rattle.da_rows.specs.Steps.{untimed, fact_in};
 ghost use Rattle.da_leaf.specs.Steps.{only_written_at, is_lident, target_at, assign_at, event_at, blocking_at, scheduled, nonblocking_at, return_at, task_at, disable_at, event_control_at, construct_of, stays_written, construct_from, LeafRow, referring_at, leaf_at};
 
-use da::{CallEffect, DaOut, DaResult};
+use da::{CallEffect, DaOut, DaResult, Reason};
 use da_rows::Context;
 use kinds::{ExprClass, StmtClass};
 
 // A statement that is accepted only where the local is written.
-fn only_written(rows: &[u32], i: usize, reason: u32, assigned: bool) -> DaResult
+fn only_written(rows: &[u32], i: usize, reason: Reason, assigned: bool) -> DaResult
     requires { 5 * i + 4 < length rows.now }
     ensures { result ≡ only_written_at rows.now i reason assigned }
 {
@@ -76,7 +76,12 @@ fn da_target(
     }
     let end = table::next_at(rows, from, to);
     let clear = reads::no_ref(rows, local, from, end);
-    only_written(rows, i, 4, gained(!clear, after, assigned))
+    only_written(
+        rows,
+        i,
+        Reason::PartWritten,
+        gained(!clear, after, assigned),
+    )
 }
 
 // A blocking assignment in row i from its right side on; the rows from `from` up to `to` are its target and right side.
@@ -110,7 +115,7 @@ fn da_event(
 {
     let target = table::next_at(rows, from, to);
     if da_rows::refers_unwritten(rows, local, from, target, assigned) {
-        return Err(da_rows::give_up(rows, i, 3));
+        return Err(da_rows::give_up(rows, i, Reason::EventReads));
     }
     da_assign(rows, local, i, target, to, assigned)
 }
@@ -140,7 +145,7 @@ fn da_nonblocking(rows: &[u32], ctx: Context, i: usize, end: usize, assigned: bo
     ensures { result ≡ nonblocking_at ctx rows.now i end assigned }
 {
     if !ctx.sole {
-        return Err(da_rows::give_up(rows, i, 1));
+        return Err(da_rows::give_up(rows, i, Reason::SharedNet));
     }
     let event = table::next_at(rows, i + 1, end);
     let target = table::next_at(rows, event, end);
@@ -176,8 +181,8 @@ fn da_task(rows: &[u32], i: usize, assigned: bool) -> DaResult
     match call_effect(table::side_at(rows, i)) {
         CallEffect::Inert => Ok(DaOut::Falls(assigned)),
         CallEffect::Writes => Ok(DaOut::Falls(true)),
-        CallEffect::Reads => only_written(rows, i, 6, assigned),
-        CallEffect::Unknown => only_written(rows, i, 7, assigned),
+        CallEffect::Reads => only_written(rows, i, Reason::TaskReads, assigned),
+        CallEffect::Unknown => only_written(rows, i, Reason::TaskUnknown, assigned),
     }
 }
 
@@ -213,7 +218,7 @@ fn da_eventctrl(rows: &[u32], local: usize, i: usize, end: usize, assigned: bool
 {
     let body = table::next_at(rows, i + 1, end);
     if da_rows::refers_unwritten(rows, local, i + 1, body, assigned) {
-        return Err(da_rows::give_up(rows, i, 8));
+        return Err(da_rows::give_up(rows, i, Reason::ControlReads));
     }
     Ok(DaOut::Falls(assigned))
 }
@@ -312,9 +317,9 @@ pub fn da_referring(
         }
         StmtClass::Delayctrl => da_rows::unless_held_read(rows, ctx.local, i + 1, end, assigned),
         StmtClass::Eventctrl => da_eventctrl(rows, ctx.local, i, end, assigned),
-        StmtClass::Fork => only_written(rows, i, 5, assigned),
+        StmtClass::Fork => only_written(rows, i, Reason::Forks, assigned),
         StmtClass::Systask | StmtClass::Unmodelled | StmtClass::Null => {
-            only_written(rows, i, 9, assigned)
+            only_written(rows, i, Reason::NotModelled, assigned)
         }
         _ => Ok(DaOut::Falls(assigned)),
     }

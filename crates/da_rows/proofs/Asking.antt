@@ -22,6 +22,7 @@ use Rattle.da.specs.declared.DaOut.{DaOut}
 use Rattle.da.specs.declared.DaOut.TheVariants.{Falls}
 use Rattle.da.specs.declared.DaGiveUp.{DaGiveUp}
 use Rattle.std.specs.Prelude.{Result, Ok, Err}
+use Rattle.da.specs.declared.Reason.TheVariants.{ReadUnwritten}
 use Rattle.da.specs.Outcome.{DaResult, State, is_written, gains, ◌▷◌}
 use Rattle.da.specs.Walk.{expr_reads, expr_out_writes, unless_read, unless_one_read, held_facts_at}
 use Rattle.da_rows.specs.declared.States.{States}
@@ -42,7 +43,7 @@ module _ (x : ℕ) (rows : List ℕ) (from to : ℕ) (a : State) (o : ExprEffect
   pub evaluate_reads : (stop : DaGiveUp)
       → o.effect ≡ Reads
       → Nested rows from to
-      → stop ≡ record { reason = 2; lo = first_lo rows from to; hi = first_hi rows from to }
+      → stop ≡ record { reason = ReadUnwritten; lo = first_lo rows from to; hi = first_hi rows from to }
       → Err stop ≡ evaluation (fact_in x rows from to) a
   unfolding evaluation
   evaluate_reads stop q g e =
@@ -104,7 +105,7 @@ module _ (e : ExprFacts) (a : State) (q : Result States DaGiveUp) (v : q ≡ eva
   pub states_are : (states : States) → q ≡ Ok states → states ≡ states_after e a
   unfolding evaluation
   states_are states h =
-      goes_to (not (is_written (gains (expr_out_writes e) a)) && expr_reads e) (record { reason = 2; lo = e.lo; hi = e.hi }) (states_after e a) states (sym v ∙ h)
+      goes_to (not (is_written (gains (expr_out_writes e) a)) && expr_reads e) (record { reason = ReadUnwritten; lo = e.lo; hi = e.hi }) (states_after e a) states (sym v ∙ h)
 
   pub evaluated_stops : (stop : DaGiveUp) (next : DaResult) → q ≡ Err stop → Err stop ≡ unless_read e (gains (expr_out_writes e) a) next
   evaluated_stops stop next h = sym (after_onward e a next ∙ rw (← v, h))

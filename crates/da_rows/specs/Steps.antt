@@ -11,6 +11,8 @@ use Rattle.expr_effect.specs.Law.{ExprFacts, expr_facts, no_facts}
 use Rattle.loops.specs.Escape.{cannot_escapes}
 use Rattle.da.specs.Walk.{DaCtx, StmtRow, held_facts, stmt_row, expr_reads, expr_out_writes, gains_when, falls_written}
 use Rattle.da.specs.declared.DaGiveUp.{DaGiveUp}
+use Rattle.da.specs.declared.Reason.{Reason}
+use Rattle.da.specs.declared.Reason.TheVariants.{ReadUnwritten}
 use Rattle.da.specs.Outcome.{DaResult, State, is_written, gains}
 use Rattle.da.specs.declared.DaOut.{DaOut}
 use Rattle.da.specs.declared.DaOut.TheVariants.{Falls}
@@ -64,7 +66,7 @@ states_after e a = record {
 unfoldable pub evaluation : ExprFacts → State → Result States DaGiveUp
 evaluation e a =
     cond (not (is_written (gains (expr_out_writes e) a)) && expr_reads e)
-    (Err (record { reason = 2; lo = e.lo; hi = e.hi }))
+    (Err (record { reason = ReadUnwritten; lo = e.lo; hi = e.hi }))
     (Ok (states_after e a))
 
 -- what follows an evaluation
@@ -73,7 +75,7 @@ onward (Ok states) next = next states
 onward (Err stop) next = Err stop
 
 -- a give-up at row i: "the others [carry] the statement's" span
-abbrev pub give_up_at : List ℕ → ℕ → ℕ → DaGiveUp
+abbrev pub give_up_at : List ℕ → ℕ → Reason → DaGiveUp
 give_up_at rows i reason = record { reason = reason; lo = lo_at rows i; hi = hi_at rows i }
 
 -- ast::CaseItem::Match, ast::CaseItem::Default, "an absent `else`", or a statement

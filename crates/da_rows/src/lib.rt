@@ -8,10 +8,11 @@ ghost use Rattle.table.specs.Fold.{tail};
 ghost use Rattle.reads.specs.declared.Iff.TheVariants.{Skipped};
 ghost use Rattle.reads.specs.Mentions.{refers as refers_in};
 ghost use Rattle.da.specs.declared.DaOut.TheVariants.{Falls};
+ghost use Rattle.da.specs.declared.Reason.TheVariants.{ReadUnwritten};
 ghost use Rattle.da.specs.Walk.{unless_read, unless_one_read, falls_written};
 ghost use Rattle.da_rows.specs.Steps.{first_lo, first_hi, fact_in, facts_in, held_in, always as always_of, evaluation, give_up_at, part_of_class, part_of_row, part_in, is_default_part, is_absent_part, labels_in, case_out, body_assigns};
 
-use da::{DaGiveUp, DaOut, DaResult};
+use da::{DaGiveUp, DaOut, DaResult, Reason};
 use effect_rules::ExprDa;
 use kinds::StmtClass;
 
@@ -44,7 +45,7 @@ impl States {
 }
 
 // A give-up at row i.
-pub fn give_up(rows: &[u32], i: usize, reason: u32) -> DaGiveUp
+pub fn give_up(rows: &[u32], i: usize, reason: Reason) -> DaGiveUp
     requires { 5 * i + 4 < length rows.now }
     ensures { result ≡ give_up_at rows.now i reason }
 {
@@ -58,13 +59,13 @@ pub fn give_up(rows: &[u32], i: usize, reason: u32) -> DaGiveUp
 // Reason 2 at the first of the rows from `from` up to `to`.
 fn read_at(rows: &[u32], from: usize, to: usize) -> DaGiveUp
     requires { Nested rows.now from to }
-    ensures { result ≡ record { reason = 2; lo = first_lo rows.now from to; hi = first_hi rows.now from to } }
+    ensures { result ≡ record { reason = ReadUnwritten; lo = first_lo rows.now from to; hi = first_hi rows.now from to } }
 {
     if from < to {
-        give_up(rows, from, 2)
+        give_up(rows, from, Reason::ReadUnwritten)
     } else {
         DaGiveUp {
-            reason: 2,
+            reason: Reason::ReadUnwritten,
             lo: 0,
             hi: 0,
         }

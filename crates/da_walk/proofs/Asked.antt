@@ -12,6 +12,7 @@ use Rattle.reads.specs.Mentions.{some}
 use Rattle.loops.specs.Time.{advances_at, advances, advances_time}
 use Rattle.da.specs.declared.DaGiveUp.{DaGiveUp}
 use Rattle.std.specs.Prelude.{Err}
+use Rattle.da.specs.declared.Reason.TheVariants.{SharedNet}
 use Rattle.da.specs.Outcome.{DaResult, State}
 use Rattle.da.specs.Walk.{da_ctx, da_stmt}
 use Rattle.da.proofs.Timing.{asked_once}
@@ -29,12 +30,12 @@ unfolding advances_time some fold
 row_advances g h = rw (tree_alone g h) (or-false _)
 
 module _ (ctx : Context) (rows names : List ℕ) (from to : ℕ) (a : State) (b : Bool) (g : StatementIn rows from to) (e : b ≡ not ctx.sole && advances_alone rows from) where
-  stmt_once : da_stmt (da_ctx ctx.local (marks_of names) ctx.sole) (tree rows from to) a ≡ cond b (Err (give_up_at rows from 1)) (da_stmt (untimed ctx names) (tree rows from to) a)
+  stmt_once : da_stmt (da_ctx ctx.local (marks_of names) ctx.sole) (tree rows from to) a ≡ cond b (Err (give_up_at rows from SharedNet)) (da_stmt (untimed ctx names) (tree rows from to) a)
   stmt_once =
       rw (e, row_advances g.nested g.some, tree_some g.nested g.some)
       (asked_once ctx.local (marks_of names) ctx.sole (kind_at rows from) (side_at rows from) (lo_at rows from) (hi_at rows from) (tree rows (from + 1) (end_at rows from)) (tree rows (end_at rows from) to) a g.statement)
 
-  pub stmt_suspends : (stop : DaGiveUp) → b ≡ true → stop ≡ give_up_at rows from 1 → Err stop ≡ da_stmt (da_ctx ctx.local (marks_of names) ctx.sole) (tree rows from to) a
+  pub stmt_suspends : (stop : DaGiveUp) → b ≡ true → stop ≡ give_up_at rows from SharedNet → Err stop ≡ da_stmt (da_ctx ctx.local (marks_of names) ctx.sole) (tree rows from to) a
   stmt_suspends stop h s = sym (stmt_once ∙ rw (h, s))
 
   pub stmt_walked : (r : DaResult) → b ≡ false → r ≡ da_stmt (untimed ctx names) (tree rows from to) a → r ≡ da_stmt (da_ctx ctx.local (marks_of names) ctx.sole) (tree rows from to) a

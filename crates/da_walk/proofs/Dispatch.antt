@@ -15,6 +15,8 @@ use Rattle.kinds.proofs.Below.{both_true}
 use Rattle.reads.specs.NoRef.{vetting, vetted, stmt_no_ref}
 use Rattle.da.specs.declared.DaOut.TheVariants.{Falls}
 use Rattle.std.specs.Prelude.{Ok}
+use Rattle.da.specs.declared.Reason.{Reason}
+use Rattle.da.specs.declared.Reason.TheVariants.{ControlReads}
 use Rattle.da.specs.Outcome.{DaResult, State, is_written, give_up, ◌▷◌}
 use Rattle.da.specs.Walk.{DaCtx, Walk, no_walk, held_facts, walk_of, walk_at, da_stmt}
 use Rattle.da_rows.specs.declared.Context.{Context}
@@ -31,7 +33,7 @@ pub inner_none : (ctx : DaCtx) (rows : List ℕ) (from to : ℕ) (a : State) →
 inner_none ctx rows from to a h = sym (ap (λ (ws : List Walk). (nth no_walk 0 ws).walk a) (fold_none (walk_at ctx) rows from to h))
 
 -- a test that gives up, before the body
-stop_then : (b : Bool) (reason lo hi : ℕ) (a : State) (body : DaResult) → cond b (give_up reason lo hi) body ≡ cond b (give_up reason lo hi) (Ok (Falls a)) ▷ λ out. body
+stop_then : (b : Bool) (reason : Reason) (lo hi : ℕ) (a : State) (body : DaResult) → cond b (give_up reason lo hi) body ≡ cond b (give_up reason lo hi) (Ok (Falls a)) ▷ λ out. body
 stop_then true reason lo hi a body = refl
 stop_then false reason lo hi a body = refl
 
@@ -63,7 +65,7 @@ module _ (c : Context) (rows names : List ℕ) (i end : ℕ) (a : State) where
   walked_by K.Repeat h = rw h
   walked_by K.Forever h = rw h
   walked_by K.Delayctrl h = rw h (unless_one_then (held_in c.local rows (i + 1) end) a _)
-  walked_by K.Eventctrl h = rw h (stop_then (not (is_written a) && (fact_in c.local rows (i + 1) end).refers) 8 _ _ a _)
+  walked_by K.Eventctrl h = rw h (stop_then (not (is_written a) && (fact_in c.local rows (i + 1) end).refers) ControlReads _ _ a _)
   walked_by K.Wait h = rw h (unless_then (fact_in c.local rows (i + 1) end) a _)
 
 -- da_stmt of a row is what its construct comes to

@@ -12,7 +12,7 @@ ghost use Rattle.da_rows.specs.Steps.{untimed};
 ghost use Rattle.da_walk.specs.Statement.{StatementIn};
 ghost use Rattle.da_walk.specs.Steps.{block_in, if_in, branches_in, else_in, case_in, arms_in, arm_in, PassedOver, ControlRow, controlled_at, LoopAt, rounds_at, ForRow, for_at, while_at, repeat_at, forever_at, advances_alone};
 
-use da::{DaOut, DaResult};
+use da::{DaOut, DaResult, Reason};
 use da_leaf::Construct;
 use da_rows::{Context, States};
 use kinds::StmtClass;
@@ -392,7 +392,7 @@ pub fn da_stmt(
     ensures means { WalkMeans ctx.local (marks_of names.now) (tree rows.now from to) assigned result }
 {
     if suspends(rows, ctx, from, to) {
-        return Err(da_rows::give_up(rows, from, 1));
+        return Err(da_rows::give_up(rows, from, Reason::SharedNet));
     }
     da_inner(rows, names, ctx, from, to, assigned)
 }
