@@ -2,20 +2,13 @@
 // input is refused and not cut. A read or a write that fails ends the run with its error.
 #![tactic(auto)]
 
-use answers::Answer;
 use std::io;
-
-fn say(rt: &impl Print, answer: Answer) -> io::Result<()> {
-    let text = answers::text_of(answer, b'\n');
-    let bytes = text.bytes;
-    let size = text.size;
-    rt.write_all(&bytes[0..size])
-}
 
 fn main(rt: HostRuntime) -> io::Result<()> {
     let mut sheet = [0u8; 65537];
     let mut rows = [0u32; 10000];
     let mut names = [0u32; 1500];
     let size = frames::read_full(&mut rt.stdin(), &mut sheet)?;
-    say(&rt, verdict::verdict(&sheet[..size], &mut rows, &mut names))
+    let answer = verdict::verdict(&sheet[..size], &mut rows, &mut names);
+    rt.write_all(answers::text_of(answer, b'\n').as_bytes())
 }

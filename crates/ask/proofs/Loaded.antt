@@ -6,7 +6,7 @@ use mathlib.Core.List.{List}
 use native.Mathlib.Omega.{arith}
 use lib.ListN.{length}
 use borrow.Author.Tests.{le-leb}
-use Rattle.checks.specs.declared.Checked.TheVariants as C
+use Rattle.checks.specs.Checks.{passed}
 use Rattle.checks.proofs.Passed.{fields_passed, children_passed, checked_pass}
 use Rattle.sheet_record.specs.declared.Record.{Record}
 use Rattle.sheet_record.specs.Records.{mark_at, record_held, marks_fit}
@@ -23,7 +23,7 @@ module _ (r : Record) (rows names : List ℕ) (a : Asked r rows names) where
   unfolding record_held
   is_held = rw (a.fits, le-leb (5 * r.rows) (length rows) a.rows_held, le-leb (3 * r.names) (length names) a.names_held)
 
-  pub is_checked : table_checked r rows ≡ C.Passed
+  pub is_checked : table_checked r rows ≡ passed
   is_checked = checked_pass rows r.rows r.names (fields_passed rows r.rows r.names _ refl a.fields) (children_passed rows r.rows _ refl a.children)
 
   pub asked_walks : ask_of r rows names ≡ walk_answer (walked r rows names)

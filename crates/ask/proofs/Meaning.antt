@@ -8,8 +8,7 @@ use native.Mathlib.Omega.{arith}
 use lib.Dec.{eqb, leb}
 use lib.ListN.{length}
 use borrow.Author.Tests.{leb-true}
-use Rattle.checks.specs.declared.Checked.{Checked}
-use Rattle.checks.specs.declared.Checked.TheVariants as C
+use Rattle.checks.specs.Checks.{Checked}
 use Rattle.checks.specs.Steps.{Held}
 use Rattle.checks.proofs.Places.{Within, checked_place}
 use Rattle.refusals.specs.declared.Refusal.TheVariants.{WrongRecord, WrongTable}
@@ -17,9 +16,8 @@ use Rattle.sheet_record.specs.declared.Record.{Record}
 use Rattle.sheet_record.specs.Records.{record_fits, marks_of, record_held, marks_fit}
 use Rattle.sheet_record.proofs.Ranges.{fits_rows}
 use Rattle.da.specs.declared.DaOut.TheVariants as O
-use Rattle.da.specs.declared.DaResult.{DaResult}
-use Rattle.da.specs.declared.DaResult.TheVariants.{Ok, Err}
-use Rattle.da.specs.Outcome.{State, Accepted}
+use Rattle.std.specs.Prelude.{Ok, Err}
+use Rattle.da.specs.Outcome.{DaResult, reason_number, State, Accepted}
 use Rattle.da.specs.Walk.{da_ctx}
 use Rattle.da.proofs.Reasons.{Reasoned, goes_on, stops, nine_reasons}
 use Rattle.soundness.proofs.Demand3.{walk_means}
@@ -48,8 +46,8 @@ table_place r rows h = checked_place rows r.rows h r.names
 
 module _ (r : Record) (rows names : List ℕ) where
   checked_to : (c : Checked) → Within 0 r.rows 9 c → AskedTo r rows names (after_table c (walk_answer (walked r rows names)))
-  checked_to C.Passed w = walks
-  checked_to (C.Refused refusal row) w = no_table row (w.row refusal row refl).1
+  checked_to (Ok u) w = walks
+  checked_to (Err refused) w = no_table refused.place (w.row refused.refusal refused.place refl).1
 
   marked_to : Held rows r.rows → (b : Bool) → AskedTo r rows names (cond b (table_answer r rows names) (Refused WrongTable 0))
   marked_to h true = checked_to (table_checked r rows) (table_place r rows h)
@@ -82,7 +80,7 @@ walk_jumps (Err stop) h = cc
 reasoned_numbers : {d : DaResult} → Reasoned d → WalkNumbers (numbers_of (walk_answer d))
 reasoned_numbers (goes_on (O.Falls a)) = falls a
 reasoned_numbers (goes_on O.Jumps) = jumps
-reasoned_numbers (stops reason lo hi l m) = gives_up reason lo hi l m
+reasoned_numbers (stops reason lo hi l m) = gives_up (reason_number reason) lo hi l m
 
 pub walk_numbers : (r : Record) (rows names : List ℕ) → WalkNumbers (numbers_of (walk_answer (walked r rows names)))
 walk_numbers r rows names = reasoned_numbers (nine_reasons (da_ctx r.local (marks_of names) (eqb r.sole 1)) (row_tree r rows) (start_of r))

@@ -1,17 +1,13 @@
 -- Asking: document 01, "What the caller gets", refusals 22 and 23, and the order of asking. Definitions only.
-use Rattle.std.specs.Prelude.{ℕ, cond, List, eqb, length}
+use Rattle.std.specs.Prelude.{ℕ, cond, List, eqb, length, Ok, Err}
 use Rattle.table.specs.Rows.{Forest, tree}
-use Rattle.checks.specs.declared.Checked.{Checked}
-use Rattle.checks.specs.declared.Checked.TheVariants as C
-use Rattle.checks.specs.Checks.{checked_rows}
+use Rattle.checks.specs.Checks.{Checked, checked_rows}
 use Rattle.sheet_record.specs.declared.Record.{Record}
 use Rattle.sheet_record.specs.Records.{record_held, marks_fit, marks_of}
 use Rattle.refusals.specs.declared.Refusal.TheVariants.{WrongRecord, WrongTable}
 use Rattle.da.specs.declared.DaOut.{DaOut}
 use Rattle.da.specs.declared.DaOut.TheVariants as O
-use Rattle.da.specs.declared.DaResult.{DaResult}
-use Rattle.da.specs.declared.DaResult.TheVariants.{Ok, Err}
-use Rattle.da.specs.Outcome.{State}
+use Rattle.da.specs.Outcome.{DaResult, State}
 use Rattle.da.specs.Walk.{da_ctx, da_stmt}
 use Rattle.answers.specs.declared.Answer.{Answer}
 use Rattle.answers.specs.declared.Answer.TheVariants.{Falls, Jumps, GivesUp, Refused}
@@ -44,8 +40,8 @@ walk_answer (Err stop) = GivesUp stop
 
 -- "23 (ask; place is the row)", or what follows
 abbrev pub after_table : Checked → Answer → Answer
-after_table C.Passed next = next
-after_table (C.Refused refusal row) next = Refused WrongTable row
+after_table (Ok u) next = next
+after_table (Err refused) next = Refused WrongTable refused.place
 
 -- the checks of the rows, then the walk
 abbrev pub table_answer : Record → List ℕ → List ℕ → Answer

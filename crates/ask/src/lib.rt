@@ -3,13 +3,12 @@
 #![tactic(auto)]
 
 ghost use Rattle.std.specs.Prelude.{◌≡◌};
-ghost use Rattle.checks.specs.declared.Checked.TheVariants.{Passed};
+ghost use Rattle.checks.specs.Checks.{passed};
 ghost use Rattle.answers.specs.Answers.{numbers_of};
 ghost use Rattle.ask.specs.Ask.{table_checked, walk_answer, walked, table_answer, ask_of};
 ghost use Rattle.ask.specs.Meaning.{AskNumbers, AskMeans};
 
 use answers::Answer;
-use checks::Checked;
 use da::{DaOut, DaResult};
 use da_rows::Context;
 use refusals::Refusal;
@@ -19,17 +18,15 @@ fn walk_answer(res: DaResult) -> Answer
     ensures { result ≡ walk_answer res }
 {
     match res {
-        DaResult::Err(stop) => Answer::GivesUp(stop),
-        DaResult::Ok(out) => match out {
-            DaOut::Falls(written) => Answer::Falls(written),
-            DaOut::Jumps => Answer::Jumps,
-        },
+        Ok(DaOut::Falls(written)) => Answer::Falls(written),
+        Ok(DaOut::Jumps) => Answer::Jumps,
+        Err(stop) => Answer::GivesUp(stop),
     }
 }
 
 // The walk of row 0, from the record's start, in a table that passes the check.
 pub fn walk(record: Record, rows: &[u32], names: &[u32]) -> Answer
-    requires { table_checked «record» rows.now ≡ Passed }
+    requires { table_checked «record» rows.now ≡ passed }
     ensures { result ≡ walk_answer (walked «record» rows.now names.now) }
 {
     let ctx = Context {
@@ -43,10 +40,9 @@ pub fn walk(record: Record, rows: &[u32], names: &[u32]) -> Answer
 fn table_answer(record: Record, rows: &[u32], names: &[u32]) -> Answer
     ensures { result ≡ table_answer «record» rows.now names.now }
 {
-    let checked = checks::check(rows, record.rows, record.names);
-    match checked {
-        Checked::Refused(refusal, row) => Answer::Refused(Refusal::WrongTable, row),
-        Checked::Passed => walk(record, rows, names),
+    match checks::check(rows, record.rows, record.names) {
+        Ok(()) => walk(record, rows, names),
+        Err(refused) => Answer::Refused(Refusal::WrongTable, refused.place),
     }
 }
 

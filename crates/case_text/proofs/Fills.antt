@@ -1,17 +1,15 @@
 -- The numbers of a text, set in a table one after another: what the loop knows at a place, and the step to the next part. That a text is
 -- its first part and the parts after it is shown by induction over its bytes.
-use Prim.Native.Nat.{ℕ, zero, suc, ◌+◌, ◌-◌, ◌%◌, ◌≤◌, ◌<◌}
+use Prim.Native.Nat.{ℕ, zero, suc, ◌+◌, ◌%◌, ◌≤◌, ◌<◌}
 use mathlib.Core.Bool.{Bool, true, false, cond}
 use mathlib.Core.Path.{◌≡◌, refl, sym, ap, ◌∙◌}
 use mathlib.Core.List.{List, [], ◌∷◌}
 use native.Mathlib.Nat.{add-zero}
+use native.Mathlib.Numerals.{add-one}
 use native.Mathlib.Omega.{arith}
-use lib.Dec.{eqb, ltb}
-use lib.ListN.{length, get_or, set, take, drop, length-set, drop_of_length-le}
-use lib.Seq.{drop-cons, drop-drop, length-take-le}
-use borrow.Author.Tests.{ltb-false}
-use Rattle.case_text.proofs.Places.{part_whole}
-use Rattle.case_text.specs.Texts.{first_place, past_place, saturating_decimal, longer, parts, set_numbers}
+use lib.Dec.{eqb}
+use lib.ListN.{length, set, take, drop, length-set, length-drop}
+use Rattle.case_text.specs.Texts.{first_place, saturating_decimal, longer, parts, set_numbers}
 
 -- a text begins with the part before the first such byte
 abbrev FirstPart : ℕ → List ℕ → Type 0
@@ -30,67 +28,41 @@ unfolding first_place parts longer
 first_part byte b [] = first_byte byte b [] refl
 first_part byte b (c ∷ u) = first_byte byte b (c ∷ u) (ap (longer b) (first_part byte c u))
 
-few_first : (byte : ℕ) (text : List ℕ) → first_place byte text ≤ length text
-unfolding first_place
-few_first byte [] = omega arith
-few_first byte (b ∷ t) = go (eqb b byte) (few_first byte t)
-  where
-    go : (is : Bool) → first_place byte t ≤ length t → cond is zero (suc (first_place byte t)) ≤ suc (length t)
-    go true h = omega arith
-    go false h = omega arith
+length-zero : (l : List ℕ) → length l ≡ 0 → l ≡ []
+length-zero [] e = refl
+length-zero (b ∷ t) e = absurd (omega arith)
 
--- what stands after the place that `past` tells
-after_past : (text : List ℕ) (at n : ℕ) → at ≤ length text → drop (past_place (length text) at n) text ≡ drop (suc n) (drop at text)
-unfolding past_place
-after_past text at n h = go (ltb n (length text - at)) refl
-  where
-    go : (is : Bool) → ltb n (length text - at) ≡ is → drop (cond is (at + n + 1) (length text)) text ≡ drop (suc n) (drop at text)
-    go true e =
-        let q : at + n + 1 ≡ at + suc n = omega arith in
-        rw q (sym (drop-drop (suc n) at text))
-    go false e =
-        let l : length text ≤ at + suc n = omega (arith, ltb-false n (length text - at) e) in
-        let m : length text ≤ length text = omega arith in
-        drop_of_length-le text m ∙ sym (drop-drop (suc n) at text ∙ drop_of_length-le text l)
-
--- the parts from a place before the end: the one that `before` tells, and those from the place that `past` tells
-parts_from : (text : List ℕ) (at : ℕ) → at < length text → (part : List ℕ) → part ≡ take (first_place 32 (drop at text)) (drop at text) → (r : ℕ) → r ≡ past_place (length text) at (length part) → parts 32 (drop at text) ≡ part ∷ parts 32 (drop r text)
-parts_from text at h part p r d =
-    let l : at ≤ length text = omega arith in
-    let n : length part ≡ first_place 32 (drop at text) = ap length p ∙ length-take-le (first_place 32 (drop at text)) (drop at text) (few_first 32 (drop at text)) in
-    let f : FirstPart 32 (drop at text) = rw (drop-cons text at 0 h) (first_part 32 (get_or text at 0) (drop (suc at) text)) in
-    f ∙ rw (← p, ← n, d, after_past text at (length part) l)
-
--- what the setting of a text's numbers knows at place `at` of the text, with i numbers set
-pub record Filling (table₀ text table : List ℕ) (at i : ℕ) : Type 0 where
-  pub few : at ≤ length text
-  pub lower : i ≤ at
+-- what the setting of a text's numbers knows where so much of the text is left, with i numbers set
+pub record Filling (table₀ text table rest : List ℕ) (i : ℕ) : Type 0 where
+  pub few : i + length rest ≤ length text
   pub size : length table ≡ length table₀
-  pub count : length (parts 32 text) ≡ i + length (parts 32 (drop at text))
-  pub same : set_numbers table₀ 0 (parts 32 text) ≡ set_numbers table i (parts 32 (drop at text))
+  pub count : length (parts 32 text) ≡ i + length (parts 32 rest)
+  pub same : set_numbers table₀ 0 (parts 32 text) ≡ set_numbers table i (parts 32 rest)
 
-pub fill_start : (table text : List ℕ) → Filling table text table 0 0
-fill_start table text = record { few = omega arith; lower = omega arith; size = refl; count = omega arith; same = refl }
+pub fill_start : (table text : List ℕ) → Filling table text table text 0
+fill_start table text = record { few = omega arith; size = refl; count = omega arith; same = refl }
 
-module _ {table₀ text table : List ℕ} {at i : ℕ} (w : Filling table₀ text table at i) where
-  pub count_end : length text ≤ at → i ≡ length (parts 32 text)
+module _ {table₀ text table rest : List ℕ} {i : ℕ} (w : Filling table₀ text table rest i) where
+  pub count_end : length rest ≡ 0 → i ≡ length (parts 32 text)
   unfolding parts
-  count_end h = sym (w.count ∙ rw (drop_of_length-le text h, add-zero))
+  count_end z = let e = length-zero rest z in sym (w.count ∙ rw (e, add-zero))
 
-  pub table_end : length text ≤ at → table ≡ set_numbers table₀ 0 (parts 32 text)
+  pub table_end : length rest ≡ 0 → table ≡ set_numbers table₀ 0 (parts 32 text)
   unfolding parts set_numbers
-  table_end h = sym (w.same ∙ rw (drop_of_length-le text h))
+  table_end z = let e = length-zero rest z in sym (w.same ∙ rw e)
 
-  pub fill_on : at < length text → (part : List ℕ) → part ≡ take (first_place 32 (take (length text - at) (drop at text))) (take (length text - at) (drop at text)) → (v : ℕ) → v ≡ saturating_decimal 0 part % 4294967296 → (into : List ℕ) → into ≡ set table i v → (r : ℕ) → at < r → r ≤ length text → r ≡ past_place (length text) at (length part) → Filling table₀ text into r (i + 1)
+module _ (table₀ text table : List ℕ) (i : ℕ) where
+  fill_on : (rest : List ℕ) → Filling table₀ text table rest i → (rest ≡ [] → ⊥) → (part : List ℕ) → part ≡ take (first_place 32 rest) rest → (after : List ℕ) → after ≡ drop (first_place 32 rest + 1) rest → (v : ℕ) → v ≡ saturating_decimal 0 part % 4294967296 → (into : List ℕ) → into ≡ set table i v → Filling table₀ text into after (i + 1)
   unfolding set_numbers
-  fill_on h part p v e into q r a b d =
-      let f : parts 32 (drop at text) ≡ part ∷ parts 32 (drop r text) = parts_from text at h part (p ∙ rw (part_whole text at)) r d in
+  fill_on [] w n part p after q v e into d = absurd (n refl)
+  fill_on (b ∷ t) w n part p after q v e into d =
+      let f : parts 32 (b ∷ t) ≡ part ∷ parts 32 after = first_part 32 b t ∙ rw (p, q, add-one) in
       record {
-        few = b;
-        lower = omega (arith, w.lower);
-        size = ap length q ∙ simp length-set w.size;
+        few = omega (arith, w.few, ap length q, length-drop (first_place 32 (b ∷ t) + 1) (b ∷ t));
+        size = ap length d ∙ simp length-set w.size;
         count = w.count ∙ rw f (omega arith);
-        same = w.same ∙ rw (f, q, e);
+        same = w.same ∙ rw (f, d, e);
       }
 
-pub ruleset answers = (fill_start, count_end, table_end, fill_on)
+  pub fill_next : (rest : List ℕ) → Filling table₀ text table rest i → 0 < length rest → (part : List ℕ) → part ≡ take (first_place 32 rest) rest → (after : List ℕ) → after ≡ drop (first_place 32 rest + 1) rest → (v : ℕ) → v ≡ saturating_decimal 0 part % 4294967296 → (into : List ℕ) → into ≡ set table i v → Filling table₀ text into after (i + 1)
+  fill_next rest w l = fill_on rest w (λ e. let z : length rest ≡ 0 = ap length e in omega arith)

@@ -1,14 +1,14 @@
 -- The numbers that the code makes of bytes and numbers, one after another: what a loop knows at a place, and the step to the next.
 -- Nothing recurses.
-use Prim.Native.Nat.{ℕ, suc, ◌+◌, ◌*◌, ◌-◌, ◌%◌, ◌≤◌, ◌<◌}
+use Prim.Native.Nat.{ℕ, suc, ◌+◌, ◌*◌, ◌%◌, ◌≤◌, ◌<◌}
 use mathlib.Core.Path.{◌≡◌, refl, sym, ap, ◌∙◌}
 use mathlib.Core.List.{List}
 use native.Mathlib.Numerals.{add-one}
 use native.Mathlib.Omega.{arith}
 use lib.ListN.{length, get_or, drop, drop_of_length-le}
 use lib.Seq.{drop-cons}
-use borrow.Author.Tests.{le-leb, lt-leb, lt-ltb, le-ltb}
-use Rattle.case_text.specs.Texts.{saturating_decimal, hex_digit, digest_step, digest_of}
+use borrow.Author.Tests.{lt-ltb, le-ltb}
+use Rattle.case_text.specs.Texts.{saturating_decimal, digest_step, digest_of}
 
 -- what the reading of a number knows at place i, with the number v
 pub record Reading (text : List ℕ) (i v : ℕ) : Type 0 where
@@ -35,14 +35,6 @@ module _ (text : List ℕ) (i v : ℕ) (w : Reading text i v) where
       same = w.same ∙ rw (drop-cons text i 0 h, le-ltb 1844674407370955160 v l, ← e, add-one);
     }
 
-pub hex_letter : (b : ℕ) → 97 ≤ b → (b - 87) % 16 ≡ hex_digit b
-unfolding hex_digit
-hex_letter b h = rw (le-leb 97 b h)
-
-pub hex_figure : (b : ℕ) → b < 97 → b % 16 ≡ hex_digit b
-unfolding hex_digit
-hex_figure b h = rw (lt-leb 97 b h)
-
 -- what the digest of some numbers knows at number i, with the digest d
 pub record Digesting (numbers : List ℕ) (i d : ℕ) : Type 0 where
   pub few : i ≤ length numbers
@@ -65,4 +57,4 @@ module _ (numbers : List ℕ) (i d : ℕ) (w : Digesting numbers i d) where
     same = w.same ∙ rw (drop-cons numbers i 0 h, add-one) (ap (λ (s : ℕ). digest_of s (drop (suc i) numbers)) (sym e));
   }
 
-pub ruleset answers = (read_start, read_end, read_much, read_on, hex_letter, hex_figure, digest_start, digest_end, digest_on)
+pub ruleset answers = (read_start, read_end, read_much, read_on, digest_start, digest_end, digest_on)

@@ -1,58 +1,57 @@
--- The places that the code finds in a text, test by test: what a loop knows at a place, and the step to the next. Nothing recurses.
-use Prim.Native.Nat.{ℕ, ◌+◌, ◌-◌, ◌≤◌, ◌<◌}
-use mathlib.Core.Path.{◌≡◌, sym, ◌∙◌}
-use mathlib.Core.List.{List}
-use native.Mathlib.Nat.{add-zero}
-use native.Mathlib.Numerals.{add-one}
+-- The place of the first such byte, as std has it: one recursion for both.
+use Prim.Native.Nat.{ℕ, suc, ◌+◌, ◌-◌, ◌≤◌}
+use mathlib.Core.Path.{◌≡◌, refl, sym, ◌∙◌}
+use mathlib.Core.Bool.{Bool, true, false, cond, not}
+use mathlib.Core.List.{List, [], ◌∷◌}
 use native.Mathlib.Omega.{arith}
-use lib.ListN.{length, get_or, take, drop, length-drop, drop_of_length-le}
-use lib.Seq.{drop-cons, take_all}
-use borrow.Author.Tests.{eq-eqb, ne_eqb, le-leb, lt-leb, lt-ltb, le-ltb}
-use Rattle.case_text.specs.Texts.{first_place, smaller, past_place}
+use lib.Dec.{eqb, ltb}
+use lib.ListN.{length, take, drop, length-drop, drop_of_length-le}
+use lib.Seq.{take_all}
+use borrow.Author.Tests.{ltb-false}
+use Rattle.std.specs.Prelude.{Option, Some, None}
+use Rattle.std.specs.List.{position, position_or_len}
+use Rattle.case_text.specs.Texts.{first_place}
 
--- what the search for a byte knows at place i
-pub record Seeking (byte : ℕ) (text : List ℕ) (i : ℕ) : Type 0 where
-  pub few : i ≤ length text
-  pub same : first_place byte text ≡ i + first_place byte (drop i text)
-
-pub seek_start : (byte : ℕ) (text : List ℕ) → Seeking byte text 0
-seek_start byte text = record { few = omega arith; same = omega arith }
-
-module _ (byte : ℕ) (text : List ℕ) (i : ℕ) (w : Seeking byte text i) where
-  pub seek_end : length text ≤ i → i ≡ first_place byte text
-  unfolding first_place
-  seek_end h = sym (w.same ∙ rw (drop_of_length-le text h, add-zero))
-
-  module _ (h : i < length text) where
-    pub seek_found : get_or text i 0 ≡ byte → i ≡ first_place byte text
-    unfolding first_place
-    seek_found e = sym (w.same ∙ rw (drop-cons text i 0 h, eq-eqb (get_or text i 0) byte e, add-zero))
-
-    pub seek_on : (get_or text i 0 ≡ byte → ⊥) → Seeking byte text (i + 1)
-    unfolding first_place
-    seek_on n = record {
-      few = omega arith;
-      same = w.same ∙ rw (drop-cons text i 0 h, ne_eqb (get_or text i 0) byte n, add-one) (omega arith);
-    }
+first_position : (byte : ℕ) (t : List ℕ) → first_place byte t ≡ position_or_len (λ b. eqb b byte) t
+unfolding first_place
+first_position byte [] = refl
+first_position byte (b ∷ t) = go (eqb b byte) (first_position byte t)
+  where
+    go : (s : Bool) → first_place byte t ≡ position_or_len (λ b. eqb b byte) t → cond s 0 (suc (first_place byte t)) ≡ cond (not s) (1 + position_or_len (λ b. eqb b byte) t) 0
+    go true e = refl
+    go false e = omega arith
 
 -- a part up to the end of a text
-pub part_whole : (text : List ℕ) (n : ℕ) → take (length text - n) (drop n text) ≡ drop n text
+part_whole : (text : List ℕ) (n : ℕ) → take (length text - n) (drop n text) ≡ drop n text
 part_whole text n = take_all (length text - n) (drop n text) (omega (arith, length-drop n text))
 
-pub smaller_first : (a b : ℕ) → a ≤ b → a ≡ smaller a b
-unfolding smaller
-smaller_first a b h = rw (le-leb a b h)
+module _ (byte : ℕ) (t : List ℕ) (r : Option ℕ) (q : r ≡ position (λ b. eqb b byte) t) where
+  place_some : (i : ℕ) → r ≡ Some i → first_place byte t ≡ i
+  place_some i e = go (ltb (position_or_len (λ b. eqb b byte) t) (length t)) (sym q ∙ e)
+    where
+      go : (b : Bool) → cond b (Some (position_or_len (λ b. eqb b byte) t)) None ≡ Some i → first_place byte t ≡ i
+      go true f = let g : position_or_len (λ b. eqb b byte) t ≡ i = cc in first_position byte t ∙ g
+      go false f = absurd (let z : ◌≡◌ {A = ℕ} 0 1 = cc in omega arith)
 
-pub smaller_second : (a b : ℕ) → b < a → b ≡ smaller a b
-unfolding smaller
-smaller_second a b h = rw (lt-leb a b h)
+  place_none : r ≡ None → length t ≤ first_place byte t
+  place_none e = go (ltb (position_or_len (λ b. eqb b byte) t) (length t)) refl (sym q ∙ e)
+    where
+      go : (b : Bool) → ltb (position_or_len (λ b. eqb b byte) t) (length t) ≡ b → cond b (Some (position_or_len (λ b. eqb b byte) t)) None ≡ None → length t ≤ first_place byte t
+      go true g f = absurd (let z : ◌≡◌ {A = ℕ} 0 1 = cc in omega arith)
+      go false g f = omega (arith, first_position byte t, ltb-false _ _ g)
 
-pub past_within : (size at n : ℕ) → n < size - at → at + n + 1 ≡ past_place size at n
-unfolding past_place
-past_within size at n h = rw (lt-ltb n (size - at) h)
+  -- the two parts
+  pub some_before : (i : ℕ) → r ≡ Some i → take i t ≡ take (first_place byte t) t
+  some_before i e = rw (place_some i e)
 
-pub past_end : (size at n : ℕ) → size - at ≤ n → size ≡ past_place size at n
-unfolding past_place
-past_end size at n h = rw (le-ltb n (size - at) h)
+  pub some_after : (i : ℕ) → r ≡ Some i → take (length t - (i + 1)) (drop (i + 1) t) ≡ drop (first_place byte t + 1) t
+  some_after i e = part_whole t (i + 1) ∙ rw (place_some i e)
 
-pub ruleset answers = (seek_start, seek_end, seek_found, seek_on, smaller_first, smaller_second, past_within, past_end)
+  pub none_before : r ≡ None → t ≡ take (first_place byte t) t
+  none_before e = sym (take_all (first_place byte t) t (place_none e))
+
+  pub none_after : r ≡ None → take (length t - length t) (drop (length t) t) ≡ drop (first_place byte t + 1) t
+  none_after e =
+      let l : length t ≤ length t = omega arith in
+      let m : length t ≤ first_place byte t + 1 = omega (arith, place_none e) in
+      part_whole t (length t) ∙ drop_of_length-le t l ∙ sym (drop_of_length-le t m)

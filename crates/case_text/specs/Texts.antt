@@ -1,18 +1,10 @@
 -- A case's text taken apart, and text and digests put together, byte by byte. Definitions only.
-use Rattle.std.specs.Prelude.{ℕ, zero, suc, ◌+◌, ◌-◌, ◌*◌, ◌/◌, ◌%◌, cond, List, [], ◌∷◌, eqb, leb, ltb, length, take, drop, set}
+use Rattle.std.specs.Prelude.{ℕ, zero, suc, ◌+◌, ◌-◌, ◌*◌, ◌/◌, ◌%◌, cond, List, [], ◌∷◌, eqb, leb, ltb, take, drop, set}
 
 -- the place of the first such byte, or the length where there is none
 unfoldable pub first_place : ℕ → List ℕ → ℕ
 first_place byte [] = zero
 first_place byte (b ∷ t) = cond (eqb b byte) zero (suc (first_place byte t))
-
--- the smaller of two numbers
-unfoldable pub smaller : ℕ → ℕ → ℕ
-smaller a b = cond (leb a b) a b
-
--- the place after n bytes from a place on and one more, or the end of a text of so many bytes
-unfoldable pub past_place : ℕ → ℕ → ℕ → ℕ
-past_place size at n = cond (ltb n (size - at)) (at + n + 1) size
 
 -- the number that digits spell after some whose number is v, or the largest of 64 bits where one more digit may not fit
 unfoldable pub saturating_decimal : ℕ → List ℕ → ℕ
@@ -40,20 +32,6 @@ parts byte (b ∷ t) = cond (eqb b byte) ([] ∷ parts byte t) (longer b (parts 
 unfoldable pub set_numbers : List ℕ → ℕ → List (List ℕ) → List ℕ
 set_numbers table i [] = table
 set_numbers table i (part ∷ rest) = set_numbers (set table i (saturating_decimal 0 part % 4294967296)) (i + 1) rest
-
--- the place after a byte that is put at a place of so many, or the same place where that is past the end
-unfoldable pub put_place : ℕ → ℕ → ℕ
-put_place size at = cond (ltb at size) (at + 1) at
-
--- the bytes once a text is put from a place on, what would stand past the end dropped
-unfoldable pub put_all : List ℕ → ℕ → List ℕ → List ℕ
-put_all out at [] = out
-put_all out at (b ∷ t) = put_all (set out at b) (put_place (length out) at) t
-
--- the place after that text, of so many
-unfoldable pub all_place : ℕ → ℕ → List ℕ → ℕ
-all_place size at [] = at
-all_place size at (b ∷ t) = all_place size (put_place size at) t
 
 -- the byte of a number's last decimal figure
 abbrev pub figure_of : ℕ → ℕ

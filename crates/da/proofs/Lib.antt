@@ -5,3 +5,4 @@ pub mod Written
 pub mod Shared
 pub mod Reasons
 pub mod Marked
+pub mod Passed

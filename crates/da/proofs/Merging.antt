@@ -1,26 +1,11 @@
--- How arms meet: what `merge` answers, and that it is a commutative monoid with Jumps as its identity, so that the order in which
--- the arms of a case are merged, and what they are merged into first, is free.
+-- How arms meet: `merge` is a commutative monoid with Jumps as its identity, so that the order in which the arms of a case are merged,
+-- and what they are merged into first, is free.
 use mathlib.Core.Path.{◌≡◌, refl, sym}
 use mathlib.Core.Bool.{Bool, true, false, ◌&&◌, and-true, and_comm, and_assoc}
 use Rattle.kinds.proofs.Below.{true_not_false}
 use Rattle.da.specs.declared.DaOut.{DaOut}
 use Rattle.da.specs.declared.DaOut.TheVariants.{Falls, Jumps}
-use Rattle.da.specs.Outcome.{State, is_written, written, meet, state, merge}
-
--- The code, whose `a && b` is b where a is written, and a where it is not
-
-pub falls_jumps : (first second : DaOut) (a : State) → first ≡ Falls a → second ≡ Jumps → Falls a ≡ merge first second
-falls_jumps first second a e f = rw (e, f)
-
-pub falls_both : (first second : DaOut) (a b : State)
-    → first ≡ Falls a → second ≡ Falls b → is_written a ≡ true → Falls b ≡ merge first second
-falls_both first second a b e f h = rw (e, f, h)
-
-pub falls_not : (first second : DaOut) (a b : State)
-    → first ≡ Falls a → second ≡ Falls b → is_written a ≡ false → Falls a ≡ merge first second
-falls_not first second a b e f h = rw (e, f, h)
-
-pub ruleset merged = (falls_jumps, falls_both, falls_not)
+use Rattle.da.specs.Outcome.{State, written, meet, state, merge}
 
 -- What both say, whatever order they are asked in; what is written says no less
 

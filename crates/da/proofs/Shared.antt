@@ -15,9 +15,8 @@ use Rattle.expr_effect.specs.Law.{ExprFacts, no_facts}
 use Rattle.da.specs.declared.DaOut.{DaOut}
 use Rattle.da.specs.declared.DaOut.TheVariants.{Falls, Jumps}
 use Rattle.da.specs.declared.DaGiveUp.{DaGiveUp}
-use Rattle.da.specs.declared.DaResult.{DaResult}
-use Rattle.da.specs.declared.DaResult.TheVariants.{Ok, Err}
-use Rattle.da.specs.Outcome.{State, is_written, gains, state, merge, ◌▷◌, go_on}
+use Rattle.std.specs.Prelude.{Ok, Err}
+use Rattle.da.specs.Outcome.{DaResult, State, is_written, gains, state, merge, ◌▷◌, go_on}
 use Rattle.da.specs.Walk.{DaCtx, da_ctx, Walk, StmtRow, expr_reads, expr_out_writes, unless_read, unless_one_read, evaluated, gains_when, stmt, no_walk, else_from, if_else, block, arms, case_of, rounds, while_true, referring, walk_of, walk_at, walks, da_stmt}
 
 -- the first gives up, or both answer the same

@@ -17,8 +17,8 @@ use Rattle.reads.specs.Mentions.{some}
 use Rattle.expr_effect.specs.Law.{ExprFacts}
 use Rattle.loops.proofs.Trees.{still_below}
 use Rattle.loops.specs.Time.{advances_at, advances, advances_time}
-use Rattle.da.specs.declared.DaResult.{DaResult}
-use Rattle.da.specs.Outcome.{State, give_up}
+use Rattle.da.specs.declared.Reason.TheVariants.{SharedNet}
+use Rattle.da.specs.Outcome.{DaResult, State, give_up}
 use Rattle.da.specs.Walk.{DaCtx, da_ctx, Walk, StmtRow, stmt, walk_of, walk_at, walks, da_stmt}
 
 -- the classes of statements; the others are "no statements, and are not tested"
@@ -91,7 +91,7 @@ module _ (x : ℕ) (marks : ℕ → Bool) (sole : Bool) where
   -- "if !ctx.sole && stmt_advances_time(st, ..)" is the first thing that is asked of a statement
   asked_first : (class : StmtClass) (r : StmtRow) (es : List ExprFacts) (held : List (List ExprFacts)) (ws : List Walk)
       → walk_of asking class r es held ws
-      ≡ cond (is_tested class && r.advances) (stmt λ a. give_up 1 r.lo r.hi) (walk_of not_asking class r es held ws)
+      ≡ cond (is_tested class && r.advances) (stmt λ a. give_up SharedNet r.lo r.hi) (walk_of not_asking class r es held ws)
   asked_first Blocking r es held ws = tested r.advances _ _
   asked_first Nonblocking r es held ws = tested r.advances _ _
   asked_first If r es held ws = tested r.advances _ _
@@ -130,13 +130,13 @@ module _ (x : ℕ) (marks : ℕ → Bool) (sole : Bool) where
   row_once : (class : StmtClass) (r : StmtRow) (es : List ExprFacts) (held : List (List ExprFacts)) (ws vs : List Walk) (a : State)
       → is_tested class ≡ true
       → (r.advances ≡ false → ws ≡ vs)
-      → (walk_of asking class r es held ws).walk a ≡ cond r.advances (give_up 1 r.lo r.hi) ((walk_of not_asking class r es held vs).walk a)
+      → (walk_of asking class r es held ws).walk a ≡ cond r.advances (give_up SharedNet r.lo r.hi) ((walk_of not_asking class r es held vs).walk a)
   row_once class r es held ws vs a h children = ap (λ w. w.walk a) (rw h at (asked_first class r es held ws)) ∙ go r.advances refl
     where
       go : (b : Bool)
           → r.advances ≡ b
-          → (cond r.advances (stmt λ a. give_up 1 r.lo r.hi) (walk_of not_asking class r es held ws)).walk a
-          ≡ cond r.advances (give_up 1 r.lo r.hi) ((walk_of not_asking class r es held vs).walk a)
+          → (cond r.advances (stmt λ a. give_up SharedNet r.lo r.hi) (walk_of not_asking class r es held ws)).walk a
+          ≡ cond r.advances (give_up SharedNet r.lo r.hi) ((walk_of not_asking class r es held vs).walk a)
       go true q = rw q
       go false q = rw (q, children q)
 
@@ -144,7 +144,7 @@ module _ (x : ℕ) (marks : ℕ → Bool) (sole : Bool) where
   pub time_once : (k s lo hi : ℕ) (cs others : Forest) (a : State)
       → in_class S k ≡ true
       → da_stmt asking (node k s lo hi cs others) a
-      ≡ cond (advances_at k s lo hi cs (advances cs)) (give_up 1 lo hi) (da_stmt not_asking (node k s lo hi cs others) a)
+      ≡ cond (advances_at k s lo hi cs (advances cs)) (give_up SharedNet lo hi) (da_stmt not_asking (node k s lo hi cs others) a)
   unfolding fold walk_at
   time_once k s lo hi cs others a h =
       row_once (stmt_class k) _ _ _ _ _ a (statement_tested k h) λ still. still_unasked cs (below_still k s lo hi cs still)
@@ -153,6 +153,6 @@ module _ (x : ℕ) (marks : ℕ → Bool) (sole : Bool) where
 pub asked_once : (x : ℕ) (marks : ℕ → Bool) (sole : Bool) (k s lo hi : ℕ) (cs others : Forest) (a : State)
     → in_class S k ≡ true
     → da_stmt (da_ctx x marks sole) (node k s lo hi cs others) a
-    ≡ cond (not sole && advances_at k s lo hi cs (advances cs)) (give_up 1 lo hi) (da_stmt (not_asking x marks sole) (node k s lo hi cs others) a)
+    ≡ cond (not sole && advances_at k s lo hi cs (advances cs)) (give_up SharedNet lo hi) (da_stmt (not_asking x marks sole) (node k s lo hi cs others) a)
 asked_once x marks true k s lo hi cs others a h = refl
 asked_once x marks false k s lo hi cs others a h = time_once x marks false k s lo hi cs others a h

@@ -11,11 +11,10 @@ use Rattle.kinds.specs.Named.{stmt_class, task_effect, has_default}
 use Rattle.expr_effect.specs.Law.{ExprFacts, no_facts}
 use Rattle.da.specs.declared.DaOut.{DaOut}
 use Rattle.da.specs.declared.DaOut.TheVariants.{Falls, Jumps}
-use Rattle.da.specs.declared.DaResult.{DaResult}
-use Rattle.da.specs.declared.DaResult.TheVariants.{Ok}
+use Rattle.std.specs.Prelude.{Ok}
 use Rattle.da.specs.declared.CallEffect.{CallEffect}
 use Rattle.da.specs.declared.CallEffect.TheVariants.{Inert, Writes, Reads, Unknown}
-use Rattle.da.specs.Outcome.{is_written, written, merge, ◌▷◌, Accepted}
+use Rattle.da.specs.Outcome.{DaResult, is_written, written, merge, ◌▷◌, Accepted}
 use Rattle.da.proofs.Walks.{All, none, and, at_place, after_first}
 use Rattle.da.specs.Walk.{DaCtx, da_ctx, Walk, StmtRow, no_walk, unless_one_read, if_else, block, arms, case_of, rounds, call_effect, task, walk_of, walk_at, walks, da_stmt}
 

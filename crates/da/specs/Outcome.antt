@@ -1,9 +1,14 @@
 -- What da_stmt answers: DaOut, DaGiveUp and DaResult of da/mod.rs, and what a state of the walk says. Definitions only.
-use Rattle.std.specs.Prelude.{Bool, true, false, ◌&&◌, ◌||◌, ℕ}
+use Rattle.std.specs.Prelude.{Bool, true, false, ◌&&◌, ◌||◌, ℕ, Result, Ok, Err}
 use Rattle.da.specs.declared.DaOut.{DaOut}
 use Rattle.da.specs.declared.DaOut.TheVariants.{Falls, Jumps}
-use Rattle.da.specs.declared.DaResult.{DaResult}
-use Rattle.da.specs.declared.DaResult.TheVariants.{Ok, Err}
+use Rattle.da.specs.declared.Reason.{Reason}
+use Rattle.da.specs.declared.Reason.TheVariants.{SharedNet, ReadUnwritten, EventReads, PartWritten, Forks, TaskReads, TaskUnknown, ControlReads, NotModelled}
+use Rattle.da.specs.declared.DaGiveUp.{DaGiveUp}
+
+-- "type DaResult = Result<DaOut, DaGiveUp>;"
+abbrev pub DaResult : Type 0
+DaResult = Result DaOut DaGiveUp
 
 -- the walk's `assigned`. Every rule uses it by the five names below (document 02, Paper 5, makes it a mark a bit)
 abbrev pub State : Type 0
@@ -51,8 +56,29 @@ abbrev pub go_on : (State → DaResult) → DaOut → DaResult
 go_on next (Falls a) = next a
 go_on next Jumps = Ok Jumps
 
--- DaGiveUp::at: a reason by its number in document 01, with a span
-abbrev pub give_up : ℕ → ℕ → ℕ → DaResult
+-- document 01's number of a reason
+abbrev pub reason_number : Reason → ℕ
+-- "shared net and time can advance"
+reason_number SharedNet = 1
+-- "read before any write"
+reason_number ReadUnwritten = 2
+-- "event on an assignment"
+reason_number EventReads = 3
+-- "only part written"
+reason_number PartWritten = 4
+-- "fork"
+reason_number Forks = 5
+-- "call reads"
+reason_number TaskReads = 6
+-- "call unknown"
+reason_number TaskUnknown = 7
+-- "event control"
+reason_number ControlReads = 8
+-- "form not modelled"
+reason_number NotModelled = 9
+
+-- DaGiveUp::at: a reason, with a span
+abbrev pub give_up : Reason → ℕ → ℕ → DaResult
 give_up reason lo hi = Err (record { reason = reason; lo = lo; hi = hi })
 
 -- "Accepted means falls or jumps"

@@ -1,6 +1,6 @@
 -- da_stmt: da/mod.rs and loop_body_assigns of da/loops.rs, followed line by line, a row at a time. Definitions only. The nine reasons
 -- have document 01's numbers, and "2 carries the expression's span, the others the statement's".
-use Rattle.std.specs.Prelude.{List, [], ◌∷◌, Bool, true, false, cond, ◌&&◌, not, ℕ, eqb}
+use Rattle.std.specs.Prelude.{List, [], ◌∷◌, Bool, true, false, cond, ◌&&◌, not, ℕ, eqb, Ok}
 use Rattle.table.specs.Rows.{Forest, nil, node}
 use Rattle.table.specs.Fold.{Alg, fold, nth, tail}
 use Rattle.kinds.specs.declared.StmtClass.{StmtClass}
@@ -17,11 +17,11 @@ use Rattle.loops.specs.Escape.{cannot_escapes}
 use Rattle.loops.specs.Time.{advances_at, advances}
 use Rattle.da.specs.declared.DaOut.{DaOut}
 use Rattle.da.specs.declared.DaOut.TheVariants.{Falls, Jumps}
-use Rattle.da.specs.declared.DaResult.{DaResult}
-use Rattle.da.specs.declared.DaResult.TheVariants.{Ok}
 use Rattle.da.specs.declared.CallEffect.{CallEffect}
 use Rattle.da.specs.declared.CallEffect.TheVariants.{Inert, Writes as CallWrites, Reads as CallReads, Unknown}
-use Rattle.da.specs.Outcome.{State, written, is_written, gains, state, merge, ◌▷◌, go_on, give_up}
+use Rattle.da.specs.declared.Reason.{Reason}
+use Rattle.da.specs.declared.Reason.TheVariants.{SharedNet, ReadUnwritten, EventReads, PartWritten, Forks, TaskReads, TaskUnknown, ControlReads, NotModelled}
+use Rattle.da.specs.Outcome.{DaResult, State, written, is_written, gains, state, merge, ◌▷◌, go_on, give_up}
 
 -- DaCtx, "unchanged from top to bottom", with the local. The closures of the Rust are side numbers here.
 pub record DaCtx : Type 0 where
@@ -83,7 +83,7 @@ expr_out_writes e = is_writes e.effects.effect
 
 -- "if !assigned && expr_reads(e, ..) { return Err(read(e)); }": reason 2, "it is read here before any write on this path"
 abbrev pub unless_read : ExprFacts → State → DaResult → DaResult
-unless_read e a next = cond (not (is_written a) && expr_reads e) (give_up 2 e.lo e.hi) next
+unless_read e a next = cond (not (is_written a) && expr_reads e) (give_up ReadUnwritten e.lo e.hi) next
 
 -- ".iter().find(|e| expr_reads(e, ..))": the first that reads
 abbrev pub unless_one_read : List ExprFacts → State → DaResult → DaResult
@@ -110,7 +110,7 @@ no_walk = record { walk = λ a. Ok (Falls a); labels = []; is_default = false; i
 
 -- the end of S::Blocking: "A clean WHOLE-var write (`name = …`) makes it definitely assigned", "this assignment writes only PART of it"
 abbrev pub assigned : Bool → State → ℕ → ℕ → DaResult
-assigned whole a lo hi = cond whole (Ok (Falls written)) (cond (is_written a) (Ok (Falls a)) (give_up 4 lo hi))
+assigned whole a lo hi = cond whole (Ok (Falls written)) (cond (is_written a) (Ok (Falls a)) (give_up PartWritten lo hi))
 
 -- S::Blocking from its right side on: "Claimed only when the LVALUE cannot itself reference `name`"
 abbrev pub from_right : ExprFacts → ExprFacts → ℕ → ℕ → State → DaResult
@@ -121,7 +121,7 @@ from_right target right lo hi a =
 -- from its event on: "the event control on this assignment reads it before any write on this path"
 abbrev pub from_event : ExprFacts → ExprFacts → ExprFacts → ℕ → ℕ → State → DaResult
 from_event event target right lo hi a =
-    cond (not (is_written a) && event.refers) (give_up 3 lo hi)
+    cond (not (is_written a) && event.refers) (give_up EventReads lo hi)
     (from_right target right lo hi a)
 
 -- S::Blocking: delay, event, right side, target
@@ -131,7 +131,7 @@ blocking r delays event target right a = unless_one_read delays a (from_event ev
 -- S::NonBlocking: "the same hazard as suspending", then the right side
 abbrev pub nonblocking : DaCtx → StmtRow → ExprFacts → State → DaResult
 nonblocking ctx r right a =
-    cond (not ctx.sole) (give_up 1 r.lo r.hi)
+    cond (not ctx.sole) (give_up SharedNet r.lo r.hi)
     (unless_read right a
     (Ok (Falls (gains (expr_out_writes right) a))))
 
@@ -200,20 +200,20 @@ call_effect effect = cond (eqb effect 0) Inert (cond (eqb effect 1) CallWrites (
 abbrev pub task : CallEffect → ℕ → ℕ → State → DaResult
 task CallWrites lo hi a = Ok (Falls written)
 task Inert lo hi a = Ok (Falls a)
-task CallReads lo hi a = cond (is_written a) (Ok (Falls written)) (give_up 6 lo hi)
-task Unknown lo hi a = cond (is_written a) (Ok (Falls written)) (give_up 7 lo hi)
+task CallReads lo hi a = cond (is_written a) (Ok (Falls written)) (give_up TaskReads lo hi)
+task Unknown lo hi a = cond (is_written a) (Ok (Falls written)) (give_up TaskUnknown lo hi)
 
 -- S::Fork, with its own reason, and "_ if assigned => Ok(Falls(true)), _ => Err(..)": "this statement form is not modelled"
-abbrev pub only_written : ℕ → StmtRow → State → DaResult
+abbrev pub only_written : Reason → StmtRow → State → DaResult
 only_written reason r a = cond (is_written a) (Ok (Falls written)) (give_up reason r.lo r.hi)
 
 -- S::EventCtrl: "this event control reads it before any write on this path"
 abbrev pub event_control : StmtRow → ExprFacts → Walk → State → DaResult
-event_control r event body a = cond (not (is_written a) && event.refers) (give_up 8 r.lo r.hi) (body.walk a)
+event_control r event body a = cond (not (is_written a) && event.refers) (give_up ControlReads r.lo r.hi) (body.walk a)
 
 -- the first test of da_stmt: "if !ctx.sole && stmt_advances_time(st, ..)"
 abbrev pub unless_time : DaCtx → StmtRow → (State → DaResult) → State → DaResult
-unless_time ctx r arm a = cond (ctx.timed && r.advances) (give_up 1 r.lo r.hi) (arm a)
+unless_time ctx r arm a = cond (ctx.timed && r.advances) (give_up SharedNet r.lo r.hi) (arm a)
 
 -- the first and the third: "if stmt_no_ref(st, name) { return Ok(DaOut::Falls(assigned)); }"; the second, of a disable, is the arm
 -- of `Disable` below
@@ -236,7 +236,7 @@ walk_of ctx Nonblocking r es held ws = referring ctx r (nonblocking ctx r (nth n
 -- S::If, S::Block, S::Fork, S::Case
 walk_of ctx If r es held ws = referring ctx r (if_else (nth no_facts 0 es) (nth no_walk 1 ws) (nth no_walk 2 ws))
 walk_of ctx Block r es held ws = referring ctx r (block ws)
-walk_of ctx Fork r es held ws = referring ctx r (only_written 5 r)
+walk_of ctx Fork r es held ws = referring ctx r (only_written Forks r)
 walk_of ctx Case r es held ws = referring ctx r (case_of (nth no_facts 0 es) (tail ws))
 -- S::For, S::While, S::Repeat, S::Forever: "Conservatively falls through even though a `forever` without a `break` never does"
 walk_of ctx For r es held ws =
@@ -253,9 +253,9 @@ walk_of ctx Delayctrl r es held ws = referring ctx r λ a. unless_one_read (nth 
 walk_of ctx Eventctrl r es held ws = referring ctx r (event_control r (nth no_facts 0 es) (nth no_walk 1 ws))
 walk_of ctx Wait r es held ws = referring ctx r λ a. unless_read (nth no_facts 0 es) a ((nth no_walk 1 ws).walk a)
 -- `_`
-walk_of ctx Systask r es held ws = referring ctx r (only_written 9 r)
-walk_of ctx Null r es held ws = referring ctx r (only_written 9 r)
-walk_of ctx Unmodelled r es held ws = referring ctx r (only_written 9 r)
+walk_of ctx Systask r es held ws = referring ctx r (only_written NotModelled r)
+walk_of ctx Null r es held ws = referring ctx r (only_written NotModelled r)
+walk_of ctx Unmodelled r es held ws = referring ctx r (only_written NotModelled r)
 -- no statement
 walk_of ctx Absent r es held ws = no_walk
 walk_of ctx NoStmt r es held ws = no_walk

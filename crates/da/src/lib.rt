@@ -11,19 +11,29 @@ pub enum DaOut {
     Jumps,
 }
 
+// Why the walk gives up, each with document 01's number.
+#[derive(Clone, Copy)]
+pub enum Reason {
+    SharedNet = 1,
+    ReadUnwritten = 2,
+    EventReads = 3,
+    PartWritten = 4,
+    Forks = 5,
+    TaskReads = 6,
+    TaskUnknown = 7,
+    ControlReads = 8,
+    NotModelled = 9,
+}
+
 // Where and why the walk stopped.
 #[derive(Clone, Copy)]
 pub struct DaGiveUp {
-    pub reason: u32,
+    pub reason: Reason,
     pub lo: u32,
     pub hi: u32,
 }
 
-#[derive(Clone, Copy)]
-pub enum DaResult {
-    Ok(DaOut),
-    Err(DaGiveUp),
-}
+pub type DaResult = Result<DaOut, DaGiveUp>;
 
 // What a call does to the local.
 #[derive(Clone, Copy)]
@@ -34,25 +44,24 @@ pub enum CallEffect {
     Unknown,
 }
 
-// The state to enter the next statement with.
-pub fn state(out: DaOut) -> bool
-    ensures { result ≡ state_of out }
-{
-    match out {
-        DaOut::Falls(a) => a,
-        DaOut::Jumps => true,
+impl DaOut {
+    // The state to enter the next statement with.
+    pub fn state(self) -> bool
+        ensures { result ≡ state_of self }
+    {
+        match self {
+            DaOut::Falls(a) => a,
+            DaOut::Jumps => true,
+        }
     }
-}
 
-// Two arms where they meet.
-pub fn merge(first: DaOut, second: DaOut) -> DaOut
-    ensures { result ≡ merge_of first second }
-{
-    match first {
-        DaOut::Jumps => second,
-        DaOut::Falls(a) => match second {
-            DaOut::Jumps => DaOut::Falls(a),
-            DaOut::Falls(b) => DaOut::Falls(a && b),
-        },
+    // Two arms where they meet.
+    pub fn merge(self, other: DaOut) -> DaOut
+        ensures { result ≡ merge_of self other }
+    {
+        match (self, other) {
+            (DaOut::Jumps, out) | (out, DaOut::Jumps) => out,
+            (DaOut::Falls(a), DaOut::Falls(b)) => DaOut::Falls(a && b),
+        }
     }
 }

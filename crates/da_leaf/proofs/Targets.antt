@@ -5,7 +5,6 @@ use mathlib.Core.Bool.{Bool, true, false, cond, not, ◌&&◌, not-not}
 use mathlib.Core.List.{List}
 use Prim.Native.Nat.{ℕ, ◌+◌, ◌≤◌, ◌<◌}
 use borrow.Author.Rules.{rules}
-use borrow.Author.Tests.{ne_eqb, not-true, not-false}
 use Rattle.table.specs.Rows.{kind_at, end_at, Forest, tree, Nested}
 use Rattle.table.specs.Steps.{RowEnd, RowAlone, NextRow}
 use Rattle.table.specs.Fold.{nth}
@@ -14,7 +13,7 @@ use Rattle.kinds.specs.declared.ExprClass.{ExprClass}
 use Rattle.kinds.specs.declared.ExprClass.TheVariants.{Ident, Call, Lident, Opaque, Event, Unary, Binary, Ternary, Paren, Other}
 use Rattle.kinds.specs.Named.{expr_class}
 use Rattle.reads.specs.declared.Iff.TheVariants.{Skipped}
-use Rattle.reads.specs.PathRows.{begins, segments, is_local}
+use Rattle.reads.specs.PathRows.{is_local}
 use Rattle.reads.specs.Mentions.{refers}
 use Rattle.reads.specs.NoRef.{lvalue_no_ref}
 use Rattle.expr_effect.specs.Law.{ExprFacts, no_facts, facts_at, is_plain}
@@ -22,35 +21,15 @@ use Rattle.expr_effect.proofs.Facts.{fact_none, fact_plain, fact_refers}
 use Rattle.da.specs.declared.DaOut.{DaOut}
 use Rattle.da.specs.declared.DaOut.TheVariants.{Falls}
 use Rattle.da.specs.declared.DaGiveUp.{DaGiveUp}
-use Rattle.da.specs.declared.DaResult.{DaResult}
-use Rattle.da.specs.declared.DaResult.TheVariants.{Ok, Err}
-use Rattle.da.specs.Outcome.{State, is_written, gains, ◌▷◌}
+use Rattle.std.specs.Prelude.{Result, Ok, Err}
+use Rattle.da.specs.declared.Reason.TheVariants.{SharedNet, EventReads, PartWritten}
+use Rattle.da.specs.Outcome.{DaResult, State, is_written, gains, ◌▷◌}
 use Rattle.da.specs.Walk.{expr_out_writes, unless_one_read}
 use Rattle.da_rows.specs.declared.Context.{Context}
 use Rattle.da_rows.specs.declared.States.{States}
-use Rattle.da_rows.specs.declared.Evaluated.{Evaluated}
-use Rattle.da_rows.specs.declared.Evaluated.TheVariants.{To, ReadUnwritten}
 use Rattle.da_rows.specs.Steps.{facts_in, fact_in, held_in, evaluation, give_up_at}
 use Rattle.da_leaf.specs.Steps.{only_written_at, is_lident, target_at, assign_at, event_at, blocking_at, scheduled, nonblocking_at}
 use Rattle.da_rows.proofs.Asking.{unread_stops, unread_goes, states_are, unless_one_then}
-
--- only_written
-module _ (rows : List ℕ) (i reason : ℕ) (a : State) where
-  pub only_yes : a ≡ true → Ok (Falls true) ≡ only_written_at rows i reason a
-  only_yes h = rw h
-
-  pub only_no : (stop : DaGiveUp) → a ≡ false → stop ≡ give_up_at rows i reason → Err stop ≡ only_written_at rows i reason a
-  only_no stop h e = rw (h, e)
-
--- is_local
-module _ (x : ℕ) (f : Forest) (n : ℕ) (e : n ≡ segments f) where
-  pub local_other : (n ≡ 1 → ⊥) → false ≡ is_local x f
-  unfolding is_local
-  local_other h = rw (← e, ne_eqb n 1 h)
-
-  pub local_begins : (r : Bool) → n ≡ 1 → r ≡ begins x f → r ≡ is_local x f
-  unfolding is_local
-  local_begins r h v = rw (← e, h) v
 
 -- is_plain
 plain_is : (x : ℕ) (k : ExprClass) (cs : Forest) → is_plain x k cs ≡ is_lident k && is_local x cs
@@ -72,11 +51,11 @@ module _ (x : ℕ) (rows : List ℕ) (from to n : ℕ) (k : ExprClass) (b : Bool
   plain_first : (fact_in x rows from to).plain ≡ b && is_local x (tree rows (from + 1) (end_at rows from))
   plain_first = fact_plain x g h ∙ plain_is x (expr_class (kind_at rows from)) (tree rows (from + 1) (end_at rows from)) ∙ rw (← p, ← q, ← e)
 
-  pub plain_other : not b ≡ true → false ≡ (fact_in x rows from to).plain
-  plain_other t = sym (plain_first ∙ rw (not-true b t))
+  pub plain_other : b ≡ false → b ≡ (fact_in x rows from to).plain
+  plain_other t = t ∙ sym (plain_first ∙ rw t)
 
-  pub plain_local : (end : ℕ) (r : Bool) → not b ≡ false → RowEnd rows from to end → r ≡ is_local x (tree rows (from + 1) end) → r ≡ (fact_in x rows from to).plain
-  plain_local end r t s v = v ∙ sym (plain_first ∙ rw (not-false b t, ← s.is))
+  pub plain_local : (end : ℕ) (r : Bool) → b ≡ true → RowEnd rows from to end → r ≡ is_local x (tree rows (from + 1) end) → r ≡ (fact_in x rows from to).plain
+  plain_local end r t s v = v ∙ sym (plain_first ∙ rw (t, ← s.is))
 
 -- da_target
 written_falls : (g : State) (stop : DaGiveUp) → cond (is_written g) (Ok (Falls g)) (Err stop) ≡ cond (is_written g) (Ok (Falls true)) (Err stop)
@@ -93,11 +72,11 @@ module _ (x : ℕ) (rows : List ℕ) (i from to : ℕ) (after a : State) (p : Bo
       → NextRow rows from to n
       → clear ≡ lvalue_no_ref x (tree rows from n)
       → g ≡ cond (not clear) a after
-      → r ≡ only_written_at rows i 4 g
+      → r ≡ only_written_at rows i PartWritten g
       → r ≡ target_at x rows i from to after a
   target_other n clear g r h t s c v w =
       w
-      ∙ sym (written_falls g (give_up_at rows i 4))
+      ∙ sym (written_falls g (give_up_at rows i PartWritten))
       ∙ sym (rw (← e, h, fact_refers x t n s.is, ← not-not (refers Skipped x (tree rows from n)), ← c, ← v))
 
 -- da_assign: the write of the right side counts where the target does not refer
@@ -106,17 +85,17 @@ gains_unless true w true = refl
 gains_unless true w false = refl
 gains_unless false w a = refl
 
-after_is : (e : ExprFacts) (a : State) (q : Evaluated) (states : States) → q ≡ evaluation e a → q ≡ To states → states.after ≡ gains (expr_out_writes e) a
+after_is : (e : ExprFacts) (a : State) (q : Result States DaGiveUp) (states : States) → q ≡ evaluation e a → q ≡ Ok states → states.after ≡ gains (expr_out_writes e) a
 after_is e a q states v h = ap (λ (s : States). s.after) (states_are e a q v states h)
 
-module _ (x : ℕ) (rows : List ℕ) (i from to n : ℕ) (a : State) (q : Evaluated) (g : Nested rows from to) (t : NextRow rows from to n) (v : q ≡ evaluation (fact_in x rows n to) a) where
+module _ (x : ℕ) (rows : List ℕ) (i from to n : ℕ) (a : State) (q : Result States DaGiveUp) (g : Nested rows from to) (t : NextRow rows from to n) (v : q ≡ evaluation (fact_in x rows n to) a) where
   right_is : fact_in x rows n to ≡ nth no_facts 1 (facts_in x rows from to)
   right_is = fold_next (facts_at x) no_facts 0 g t.is
 
-  pub assign_stops : (stop : DaGiveUp) → q ≡ ReadUnwritten stop → Err stop ≡ assign_at x rows i from to a
+  pub assign_stops : (stop : DaGiveUp) → q ≡ Err stop → Err stop ≡ assign_at x rows i from to a
   assign_stops stop h = unread_stops _ a q (rw right_is at v) stop _ h
 
-  pub assign_goes : (states : States) (r : DaResult) → q ≡ To states → r ≡ target_at x rows i from to states.after a → r ≡ assign_at x rows i from to a
+  pub assign_goes : (states : States) (r : DaResult) → q ≡ Ok states → r ≡ target_at x rows i from to states.after a → r ≡ assign_at x rows i from to a
   assign_goes states r h e =
       e
       ∙ rw (after_is (fact_in x rows n to) a q states v h, ← gains_unless, right_is)
@@ -127,7 +106,7 @@ module _ (x : ℕ) (rows : List ℕ) (i from to n : ℕ) (a b : State) (g : Nest
   event_asks : not (is_written a) && (fact_in x rows from to).refers ≡ b
   event_asks = rw (fact_refers x g n t.is) (sym e)
 
-  pub event_stops : (stop : DaGiveUp) → b ≡ true → stop ≡ give_up_at rows i 3 → Err stop ≡ event_at x rows i from to a
+  pub event_stops : (stop : DaGiveUp) → b ≡ true → stop ≡ give_up_at rows i EventReads → Err stop ≡ event_at x rows i from to a
   event_stops stop h s = rw (event_asks, h, s)
 
   pub event_goes : (r : DaResult) → b ≡ false → r ≡ assign_at x rows i n to a → r ≡ event_at x rows i from to a
@@ -138,8 +117,8 @@ module _ (x : ℕ) (rows : List ℕ) (i end : ℕ) (a : State) (r : DaResult) (e
   delay_then : (next : DaResult) → unless_one_read (held_in x rows (i + 1) end) a next ≡ r ▷ λ out. next
   delay_then next = unless_one_then (held_in x rows (i + 1) end) a next ∙ rw (← e)
 
-  pub blocking_stops : (stop : DaGiveUp) → r ≡ Err stop → r ≡ blocking_at x rows i end a
-  blocking_stops stop h = h ∙ sym (delay_then _ ∙ rw h)
+  pub blocking_stops : (stop : DaGiveUp) → r ≡ Err stop → Err stop ≡ blocking_at x rows i end a
+  blocking_stops stop h = sym (delay_then _ ∙ rw h)
 
   pub blocking_goes : (out : DaOut) (n : ℕ) (s : DaResult)
       → r ≡ Ok out
@@ -153,16 +132,16 @@ module _ (x : ℕ) (rows : List ℕ) (i end : ℕ) (a : State) (r : DaResult) (e
       (sym (delay_then _ ∙ rw h))
 
 -- da_scheduled
-module _ (e : ExprFacts) (a : State) (q : Evaluated) (v : q ≡ evaluation e a) where
-  pub scheduled_stops : (stop : DaGiveUp) → q ≡ ReadUnwritten stop → Err stop ≡ scheduled e a
+module _ (e : ExprFacts) (a : State) (q : Result States DaGiveUp) (v : q ≡ evaluation e a) where
+  pub scheduled_stops : (stop : DaGiveUp) → q ≡ Err stop → Err stop ≡ scheduled e a
   scheduled_stops stop h = unread_stops e a q v stop _ h
 
-  pub scheduled_goes : (states : States) → q ≡ To states → Ok (Falls states.after) ≡ scheduled e a
+  pub scheduled_goes : (states : States) → q ≡ Ok states → Ok (Falls states.after) ≡ scheduled e a
   scheduled_goes states h = rw (after_is e a q states v h) (unread_goes e a q v states _ h)
 
 -- da_nonblocking
 module _ (ctx : Context) (rows : List ℕ) (i end : ℕ) (a : State) where
-  pub shared_stops : (stop : DaGiveUp) → not ctx.sole ≡ true → stop ≡ give_up_at rows i 1 → Err stop ≡ nonblocking_at ctx rows i end a
+  pub shared_stops : (stop : DaGiveUp) → not ctx.sole ≡ true → stop ≡ give_up_at rows i SharedNet → Err stop ≡ nonblocking_at ctx rows i end a
   shared_stops stop h e = rw (h, e)
 
   pub sole_goes : (l m n : ℕ) (r : DaResult)
@@ -178,4 +157,4 @@ module _ (ctx : Context) (rows : List ℕ) (i end : ℕ) (a : State) where
       ∙ rw
       (h, fold_next (facts_at ctx.local) no_facts 0 s.others u.is, fold_next (facts_at ctx.local) no_facts 1 t.others s.is, fold_next (facts_at ctx.local) no_facts 2 g.children t.is)
 
-pub ruleset targets = (rules, only_yes, only_no, local_other, local_begins, plain_none, plain_other, plain_local, target_plain, target_other, assign_stops, assign_goes, event_stops, event_goes, blocking_stops, blocking_goes, scheduled_stops, scheduled_goes, shared_stops, sole_goes)
+pub ruleset targets = (rules, target_plain, target_other, assign_stops, assign_goes, event_stops, event_goes, blocking_stops, blocking_goes, scheduled_stops, scheduled_goes, shared_stops, sole_goes)

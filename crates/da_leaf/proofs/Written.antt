@@ -1,71 +1,26 @@
--- Statements that a written local stays written in: what the functions answer that ask for them, and that da_stmt falls there, since no
--- question of it stops a written local. Class by class; of a list of expressions by induction over it.
-use mathlib.Core.Path.{◌≡◌, refl, sym, ◌∙◌}
-use mathlib.Core.Bool.{Bool, true, false, cond, not, ◌&&◌}
+-- Statements that a written local stays written in: da_stmt falls there, since no question of it stops a written local. Class by class; of a
+-- list of expressions by induction over it.
+use mathlib.Core.Path.{◌≡◌, refl, sym}
+use mathlib.Core.Bool.{Bool, true, false, cond}
 use mathlib.Core.List.{List, [], ◌∷◌}
 use Prim.Native.Nat.{ℕ, ◌+◌}
-use denote.Enum.Declared.{tag_of}
-use types.Run.{OneOf}
-use Rattle.table.specs.Rows.{kind_at}
 use Rattle.table.specs.Fold.{nth}
 use Rattle.kinds.specs.declared.StmtClass.{StmtClass}
 use Rattle.kinds.specs.declared.StmtClass.TheVariants as K
-use Rattle.kinds.specs.Named.{stmt_class, task_effect}
+use Rattle.kinds.specs.Named.{task_effect}
 use Rattle.kinds.proofs.Below.{true_not_false}
-use Rattle.kinds.specs.contracts.StmtClass.{the_type}
-use Rattle.kinds.proofs.Classes.{last_arm}
 use Rattle.expr_effect.specs.Law.{ExprFacts, no_facts}
 use Rattle.da.specs.declared.DaOut.TheVariants.{Falls}
-use Rattle.da.specs.declared.DaResult.{DaResult}
-use Rattle.da.specs.declared.DaResult.TheVariants.{Ok}
+use Rattle.std.specs.Prelude.{Ok}
 use Rattle.da.specs.declared.CallEffect.{CallEffect}
 use Rattle.da.specs.declared.CallEffect.TheVariants.{Inert, Writes, Reads, Unknown}
-use Rattle.da.specs.Outcome.{written}
+use Rattle.da.specs.Outcome.{DaResult, written}
 use Rattle.da.specs.Walk.{unless_one_read, call_effect, task}
 use Rattle.da_rows.specs.declared.Context.{Context}
 use Rattle.da_leaf.specs.declared.Construct.{Construct}
 use Rattle.da_leaf.specs.declared.Construct.TheVariants.{StaysWritten, Leaf, Controlled, Arm, Block, If, Case, For, While, Repeat, Forever}
 use Rattle.da_rows.specs.Steps.{untimed, stmt_at, facts_in, held_in}
-use Rattle.da_leaf.specs.Steps.{construct_of, stays_written, construct_from, leaf_at, referring_at}
-
--- the tags of the classes that `class_stays_written` does not name, after the first
-abbrev other_tags : List ℕ
-other_tags = 1 ∷ 2 ∷ 5 ∷ 6 ∷ 7 ∷ 8 ∷ 9 ∷ 10 ∷ 11 ∷ 12 ∷ 13 ∷ 17 ∷ 18 ∷ 19 ∷ 20 ∷ 23 ∷ []
-
-pub stays_unwritten : (a b : Bool) → not a ≡ true → false ≡ a && b
-stays_unwritten false b h = refl
-stays_unwritten true b h = true_not_false (sym h)
-
-module _ (a : Bool) (c : StmtClass) (w : not a ≡ false) where
-  stays_if : (b : Bool) → b ≡ a && b
-  stays_if b = go a w
-    where
-      go : (x : Bool) → not x ≡ false → b ≡ x && b
-      go true h = refl
-      go false h = true_not_false h
-
-  pub stays_named : (class : StmtClass) → c ≡ class → stays_written class ≡ true → true ≡ a && stays_written c
-  stays_named class e v = rw (e, v) (stays_if true)
-
-  pub stays_other : OneOf (0 ∷ other_tags) (tag_of the_type c) → false ≡ a && stays_written c
-  stays_other o = rw (last_arm stays_written false 0 other_tags c refl o) (stays_if false)
-
-pub stays_at : (rows : List ℕ) (i n : ℕ) (c : StmtClass) (a b : Bool)
-    → n ≡ kind_at rows i
-    → c ≡ stmt_class n
-    → b ≡ a && stays_written c
-    → b ≡ a && stays_written (stmt_class (kind_at rows i))
-stays_at rows i n c a b p q e = rw (← p, ← q) e
-
--- construct_from
-module _ (c : StmtClass) (a b : Bool) (e : b ≡ a && stays_written c) where
-  pub from_written : b ≡ true → StaysWritten ≡ construct_from c a
-  from_written h = rw (← e, h)
-
-  pub from_class : (r : Construct) → b ≡ false → r ≡ construct_of c → r ≡ construct_from c a
-  from_class r h v = v ∙ rw (← e, h)
-
-pub ruleset stays_answers = (stays_unwritten, stays_named, stays_other, stays_at, from_written, from_class)
+use Rattle.da_leaf.specs.Steps.{construct_of, stays_written, leaf_at, referring_at}
 
 -- whatever is asked first, where nothing that is read matters any more
 no_read_matters : (es : List ExprFacts) (next : DaResult) → unless_one_read es written next ≡ next
@@ -95,7 +50,7 @@ module _ (ctx : Context) (rows names : List ℕ) (i end : ℕ) where
     where
       blocking : leaf_at (untimed ctx names) rows K.Blocking i end written ≡ Ok (Falls written)
       blocking =
-          rw (no_read_matters (held_in ctx.local rows (i + 1) end), either_way (nth no_facts 2 (facts_in ctx.local rows (i + 1) end)).plain (Ok (Falls written)))
+          rw (no_read_matters (held_in ctx.local rows (i + 1) end), either_way {A = DaResult} (nth no_facts 2 (facts_in ctx.local rows (i + 1) end)).plain (Ok (Falls written)))
           (either_way clear (Ok (Falls written)))
   stays_falls K.Task h = (refl, rw (any_call (call_effect (task_effect (stmt_at (untimed ctx names) rows i end).side))) (either_way clear (Ok (Falls written))))
   stays_falls K.Decl h = (refl, refl)

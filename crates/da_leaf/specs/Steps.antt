@@ -1,6 +1,6 @@
 -- What the code asks and answers on its way through the arms of da_stmt that walk no statement. The rules are those of da's Walk;
 -- here they are taken from rows of a table. Definitions only.
-use Rattle.std.specs.Prelude.{◌≡◌, Bool, true, false, cond, ◌&&◌, not, List, [], ℕ, ◌+◌}
+use Rattle.std.specs.Prelude.{◌≡◌, Bool, true, false, cond, ◌&&◌, not, List, [], ℕ, ◌+◌, Ok, Err}
 use Rattle.table.specs.Rows.{kind_at, side_at, lo_at, hi_at, tree}
 use Rattle.table.specs.Steps.{RowAlone}
 use Rattle.table.specs.Fold.{nth}
@@ -12,9 +12,9 @@ use Rattle.kinds.specs.Named.{stmt_class, task_effect}
 use Rattle.reads.specs.PathRows.{is_loop_jump}
 use Rattle.expr_effect.specs.Law.{ExprFacts, no_facts}
 use Rattle.da.specs.declared.DaOut.TheVariants.{Falls, Jumps}
-use Rattle.da.specs.declared.DaResult.{DaResult}
-use Rattle.da.specs.declared.DaResult.TheVariants.{Ok, Err}
-use Rattle.da.specs.Outcome.{State, written, is_written, gains}
+use Rattle.da.specs.declared.Reason.{Reason}
+use Rattle.da.specs.declared.Reason.TheVariants.{SharedNet, ControlReads}
+use Rattle.da.specs.Outcome.{DaResult, State, written, is_written, gains}
 use Rattle.da.specs.Walk.{DaCtx, StmtRow, expr_out_writes, unless_read, unless_one_read, assigned, from_right, from_event, call_effect, task, held_facts, walk_of}
 use Rattle.da_rows.specs.declared.Context.{Context}
 use Rattle.da_leaf.specs.declared.Construct.{Construct}
@@ -23,7 +23,7 @@ use Rattle.sheet_record.specs.Records.{marks_of}
 use Rattle.da_rows.specs.Steps.{stmt_at, fact_in, facts_in, held_in, give_up_at}
 
 -- `only_written` at row i
-abbrev pub only_written_at : List ℕ → ℕ → ℕ → State → DaResult
+abbrev pub only_written_at : List ℕ → ℕ → Reason → State → DaResult
 only_written_at rows i reason a = cond (is_written a) (Ok (Falls written)) (Err (give_up_at rows i reason))
 
 -- "an lident"
@@ -66,7 +66,7 @@ scheduled right a = unless_read right a (Ok (Falls (gains (expr_out_writes right
 
 -- S::NonBlocking
 abbrev pub nonblocking_at : Context → List ℕ → ℕ → ℕ → State → DaResult
-nonblocking_at ctx rows i end a = cond (not ctx.sole) (Err (give_up_at rows i 1)) (scheduled (nth no_facts 3 (facts_in ctx.local rows (i + 1) end)) a)
+nonblocking_at ctx rows i end a = cond (not ctx.sole) (Err (give_up_at rows i SharedNet)) (scheduled (nth no_facts 3 (facts_in ctx.local rows (i + 1) end)) a)
 
 -- S::Return
 abbrev pub return_at : ℕ → List ℕ → ℕ → ℕ → State → DaResult
@@ -82,7 +82,7 @@ disable_at rows names i end a = cond (is_loop_jump (marks_of names) (tree rows (
 
 -- S::EventCtrl up to its body
 abbrev pub event_control_at : ℕ → List ℕ → ℕ → ℕ → State → DaResult
-event_control_at x rows i end a = cond (not (is_written a) && (fact_in x rows (i + 1) end).refers) (Err (give_up_at rows i 8)) (Ok (Falls a))
+event_control_at x rows i end a = cond (not (is_written a) && (fact_in x rows (i + 1) end).refers) (Err (give_up_at rows i ControlReads)) (Ok (Falls a))
 
 -- which statements da_stmt walks within a statement of this class: none, the body that a timing control has, or as the construct says
 abbrev pub construct_of : StmtClass → Construct

@@ -11,47 +11,34 @@ ghost use Rattle.sheet_record.specs.Records.{marks_of};
 ghost use Rattle.da_rows.specs.Steps.{untimed, fact_in};
 ghost use Rattle.da_leaf.specs.Steps.{only_written_at, is_lident, target_at, assign_at, event_at, blocking_at, scheduled, nonblocking_at, return_at, task_at, disable_at, event_control_at, construct_of, stays_written, construct_from, LeafRow, referring_at, leaf_at};
 
-use da::{CallEffect, DaOut, DaResult};
-use da_rows::{Context, Evaluated};
+use da::{CallEffect, DaOut, DaResult, Reason};
+use da_rows::Context;
 use kinds::{ExprClass, StmtClass};
 
 // A statement that is accepted only where the local is written.
-fn only_written(rows: &[u32], i: usize, reason: u32, assigned: bool) -> DaResult
+fn only_written(rows: &[u32], i: usize, reason: Reason, assigned: bool) -> DaResult
     requires { 5 * i + 4 < length rows.now }
     ensures { result ≡ only_written_at rows.now i reason assigned }
 {
     if assigned {
-        return DaResult::Ok(DaOut::Falls(true));
+        return Ok(DaOut::Falls(true));
     }
-    DaResult::Err(da_rows::give_up(rows, i, reason))
+    Err(da_rows::give_up(rows, i, reason))
 }
 
 fn is_lident(class: ExprClass) -> bool
     ensures { result ≡ is_lident class }
 {
-    match class {
-        ExprClass::Lident => true,
-        ExprClass::Ident => false,
-        ExprClass::Call => false,
-        ExprClass::Opaque => false,
-        ExprClass::Event => false,
-        ExprClass::Unary => false,
-        ExprClass::Binary => false,
-        ExprClass::Ternary => false,
-        ExprClass::Paren => false,
-        ExprClass::Other => false,
-    }
+    matches!(class, ExprClass::Lident)
 }
 
 // Whether the first of the rows from `from` up to `to` is a path of one segment, the local.
+#[tactic(auto, unfolding(reads::specs::PathRows::is_local))]
 fn is_local(rows: &[u32], local: usize, from: usize, to: usize) -> bool
     requires { Nested rows.now from to }
     ensures { result ≡ is_local local (tree rows.now from to) }
 {
-    if reads::segments(rows, from, to) != 1 {
-        return false;
-    }
-    reads::begins_with(rows, local, from, to)
+    reads::segments(rows, from, to) == 1 && reads::begins_with(rows, local, from, to)
 }
 
 // Whether the first of the rows from `from` up to `to` is the plain local as a target.
@@ -59,14 +46,9 @@ fn is_plain(rows: &[u32], local: usize, from: usize, to: usize) -> bool
     requires { Nested rows.now from to }
     ensures { result ≡ (fact_in local rows.now from to).plain }
 {
-    if to <= from {
-        return false;
-    }
-    if !is_lident(kinds::expr_class(table::kind_at(rows, from))) {
-        return false;
-    }
-    let end = table::row_end(rows, from, to);
-    is_local(rows, local, from + 1, end)
+    from < to
+        && is_lident(kinds::expr_class(table::kind_at(rows, from)))
+        && is_local(rows, local, from + 1, table::row_end(rows, from, to))
 }
 
 // The state once the right side is evaluated: its write counts where the target does not refer to the local.
@@ -90,11 +72,16 @@ fn da_target(
     ensures { result ≡ target_at local rows.now i from to after assigned }
 {
     if is_plain(rows, local, from, to) {
-        return DaResult::Ok(DaOut::Falls(true)); // whatever it was before
+        return Ok(DaOut::Falls(true)); // whatever it was before
     }
     let end = table::next_at(rows, from, to);
-    let clear = reads::lvalue_no_ref(rows, local, from, end);
-    only_written(rows, i, 4, gained(!clear, after, assigned))
+    let clear = reads::no_ref(rows, local, from, end);
+    only_written(
+        rows,
+        i,
+        Reason::PartWritten,
+        gained(!clear, after, assigned),
+    )
 }
 
 // A blocking assignment in row i from its right side on; the rows from `from` up to `to` are its target and right side.
@@ -110,11 +97,8 @@ fn da_assign(
     ensures { result ≡ assign_at local rows.now i from to assigned }
 {
     let right = table::next_at(rows, from, to);
-    let e = da_rows::evaluate(rows, local, right, to, assigned);
-    match e {
-        Evaluated::ReadUnwritten(stop) => DaResult::Err(stop),
-        Evaluated::To(states) => da_target(rows, local, i, from, to, states.after, assigned),
-    }
+    let states = da_rows::evaluate(rows, local, right, to, assigned)?;
+    da_target(rows, local, i, from, to, states.after, assigned)
 }
 
 // A blocking assignment in row i from its event on; the rows from `from` up to `to` are its event, target and right side.
@@ -131,7 +115,7 @@ fn da_event(
 {
     let target = table::next_at(rows, from, to);
     if da_rows::refers_unwritten(rows, local, from, target, assigned) {
-        return DaResult::Err(da_rows::give_up(rows, i, 3));
+        return Err(da_rows::give_up(rows, i, Reason::EventReads));
     }
     da_assign(rows, local, i, target, to, assigned)
 }
@@ -141,10 +125,7 @@ fn da_blocking(rows: &[u32], local: usize, i: usize, end: usize, assigned: bool)
     requires { RowAlone rows.now i end }
     ensures { result ≡ blocking_at local rows.now i end assigned }
 {
-    let r = da_rows::unless_delay_read(rows, local, i + 1, end, assigned);
-    let DaResult::Ok(out) = r else {
-        return r;
-    };
+    da_rows::unless_delay_read(rows, local, i + 1, end, assigned)?;
     let event = table::next_at(rows, i + 1, end);
     da_event(rows, local, i, event, end, assigned)
 }
@@ -154,11 +135,8 @@ fn da_scheduled(rows: &[u32], local: usize, from: usize, to: usize, assigned: bo
     requires { Nested rows.now from to }
     ensures { result ≡ scheduled (fact_in local rows.now from to) assigned }
 {
-    let e = da_rows::evaluate(rows, local, from, to, assigned);
-    match e {
-        Evaluated::ReadUnwritten(stop) => DaResult::Err(stop),
-        Evaluated::To(states) => DaResult::Ok(DaOut::Falls(states.after)),
-    }
+    let states = da_rows::evaluate(rows, local, from, to, assigned)?;
+    Ok(DaOut::Falls(states.after))
 }
 
 // A nonblocking assignment: on a net that other blocks write it gives up; else its right side counts.
@@ -167,7 +145,7 @@ fn da_nonblocking(rows: &[u32], ctx: Context, i: usize, end: usize, assigned: bo
     ensures { result ≡ nonblocking_at ctx rows.now i end assigned }
 {
     if !ctx.sole {
-        return DaResult::Err(da_rows::give_up(rows, i, 1));
+        return Err(da_rows::give_up(rows, i, Reason::SharedNet));
     }
     let event = table::next_at(rows, i + 1, end);
     let target = table::next_at(rows, event, end);
@@ -179,24 +157,19 @@ fn da_return(rows: &[u32], local: usize, i: usize, end: usize, assigned: bool) -
     requires { RowAlone rows.now i end }
     ensures { result ≡ return_at local rows.now i end assigned }
 {
-    let r = da_rows::unless_read(rows, local, i + 1, end, assigned);
-    let DaResult::Ok(out) = r else {
-        return r;
-    };
-    DaResult::Ok(DaOut::Jumps)
+    da_rows::unless_read(rows, local, i + 1, end, assigned)?;
+    Ok(DaOut::Jumps)
 }
 
 // What a task does to the local, by its side number.
+#[tactic(auto, unfolding(kinds::specs::Named::task_effect))]
 fn call_effect(side: usize) -> CallEffect
     ensures { result ≡ call_effect (task_effect side) }
 {
     match side {
-        0 => CallEffect::Inert,
-        1 => CallEffect::Writes,
-        2 => CallEffect::Reads,
-        4 => CallEffect::Inert,
-        5 => CallEffect::Writes,
-        6 => CallEffect::Reads,
+        0 | 4 => CallEffect::Inert,
+        1 | 5 => CallEffect::Writes,
+        2 | 6 => CallEffect::Reads,
         _ => CallEffect::Unknown,
     }
 }
@@ -205,12 +178,11 @@ fn da_task(rows: &[u32], i: usize, assigned: bool) -> DaResult
     requires { 5 * i + 4 < length rows.now }
     ensures { result ≡ task_at rows.now i assigned }
 {
-    let effect = call_effect(table::side_at(rows, i));
-    match effect {
-        CallEffect::Inert => DaResult::Ok(DaOut::Falls(assigned)),
-        CallEffect::Writes => DaResult::Ok(DaOut::Falls(true)),
-        CallEffect::Reads => only_written(rows, i, 6, assigned),
-        CallEffect::Unknown => only_written(rows, i, 7, assigned),
+    match call_effect(table::side_at(rows, i)) {
+        CallEffect::Inert => Ok(DaOut::Falls(assigned)),
+        CallEffect::Writes => Ok(DaOut::Falls(true)),
+        CallEffect::Reads => only_written(rows, i, Reason::TaskReads, assigned),
+        CallEffect::Unknown => only_written(rows, i, Reason::TaskUnknown, assigned),
     }
 }
 
@@ -218,10 +190,7 @@ fn da_task(rows: &[u32], i: usize, assigned: bool) -> DaResult
 fn is_marked(names: &[u32], number: usize) -> bool
     ensures { result ≡ marks_of names.now number }
 {
-    if names.len() / 3 <= number {
-        return false;
-    }
-    sheet_record::mark_at(names, number) == 1
+    number < names.len() / 3 && sheet_record::mark_at(names, number) == 1
 }
 
 // Whether the first of the rows from `from` up to `to` is a path of one segment that is marked.
@@ -229,10 +198,7 @@ fn is_loop_jump(rows: &[u32], names: &[u32], from: usize, to: usize) -> bool
     requires { Nested rows.now from to }
     ensures { result ≡ is_loop_jump (marks_of names.now) (tree rows.now from to) }
 {
-    if reads::segments(rows, from, to) != 1 {
-        return false;
-    }
-    is_marked(names, table::side_at(rows, from + 1))
+    reads::segments(rows, from, to) == 1 && is_marked(names, table::side_at(rows, from + 1))
 }
 
 fn da_disable(rows: &[u32], names: &[u32], i: usize, end: usize, assigned: bool) -> DaResult
@@ -240,9 +206,9 @@ fn da_disable(rows: &[u32], names: &[u32], i: usize, end: usize, assigned: bool)
     ensures { result ≡ disable_at rows.now names.now i end assigned }
 {
     if is_loop_jump(rows, names, i + 1, end) {
-        return DaResult::Ok(DaOut::Jumps);
+        return Ok(DaOut::Jumps);
     }
-    DaResult::Ok(DaOut::Falls(assigned))
+    Ok(DaOut::Falls(assigned))
 }
 
 // What an event control asks before its body.
@@ -252,9 +218,9 @@ fn da_eventctrl(rows: &[u32], local: usize, i: usize, end: usize, assigned: bool
 {
     let body = table::next_at(rows, i + 1, end);
     if da_rows::refers_unwritten(rows, local, i + 1, body, assigned) {
-        return DaResult::Err(da_rows::give_up(rows, i, 8));
+        return Err(da_rows::give_up(rows, i, Reason::ControlReads));
     }
-    DaResult::Ok(DaOut::Falls(assigned))
+    Ok(DaOut::Falls(assigned))
 }
 
 // How da_stmt goes on at a row: the local stays written, it walks no statement, or first asks and then walks the body, or walks as the
@@ -278,8 +244,7 @@ pub fn construct_of(class: StmtClass) -> Construct
     ensures { result ≡ construct_of class }
 {
     match class {
-        StmtClass::Match => Construct::Arm,
-        StmtClass::Default => Construct::Arm,
+        StmtClass::Match | StmtClass::Default => Construct::Arm,
         StmtClass::Block => Construct::Block,
         StmtClass::If => Construct::If,
         StmtClass::Case => Construct::Case,
@@ -287,9 +252,7 @@ pub fn construct_of(class: StmtClass) -> Construct
         StmtClass::While => Construct::While,
         StmtClass::Repeat => Construct::Repeat,
         StmtClass::Forever => Construct::Forever,
-        StmtClass::Delayctrl => Construct::Controlled,
-        StmtClass::Eventctrl => Construct::Controlled,
-        StmtClass::Wait => Construct::Controlled,
+        StmtClass::Delayctrl | StmtClass::Eventctrl | StmtClass::Wait => Construct::Controlled,
         _ => Construct::Leaf,
     }
 }
@@ -299,19 +262,17 @@ pub fn construct_of(class: StmtClass) -> Construct
 fn class_stays_written(class: StmtClass, assigned: bool) -> bool
     ensures { result ≡ assigned && stays_written class }
 {
-    if !assigned {
-        return false;
-    }
-    match class {
-        StmtClass::Blocking => true,
-        StmtClass::Decl => true,
-        StmtClass::Fork => true,
-        StmtClass::Null => true,
-        StmtClass::Systask => true,
-        StmtClass::Task => true,
-        StmtClass::Unmodelled => true,
-        _ => false,
-    }
+    assigned
+        && matches!(
+            class,
+            StmtClass::Blocking
+                | StmtClass::Decl
+                | StmtClass::Fork
+                | StmtClass::Null
+                | StmtClass::Systask
+                | StmtClass::Task
+                | StmtClass::Unmodelled
+        )
 }
 
 // The same of row i.
@@ -351,15 +312,16 @@ pub fn da_referring(
         StmtClass::Return => da_return(rows, ctx.local, i, end, assigned),
         StmtClass::Task => da_task(rows, i, assigned),
         StmtClass::Disable => da_disable(rows, names, i, end, assigned),
-        StmtClass::Decl => da_rows::unless_read(rows, ctx.local, i + 1, end, assigned),
+        StmtClass::Decl | StmtClass::Wait => {
+            da_rows::unless_read(rows, ctx.local, i + 1, end, assigned)
+        }
         StmtClass::Delayctrl => da_rows::unless_held_read(rows, ctx.local, i + 1, end, assigned),
         StmtClass::Eventctrl => da_eventctrl(rows, ctx.local, i, end, assigned),
-        StmtClass::Wait => da_rows::unless_read(rows, ctx.local, i + 1, end, assigned),
-        StmtClass::Fork => only_written(rows, i, 5, assigned),
-        StmtClass::Systask => only_written(rows, i, 9, assigned),
-        StmtClass::Unmodelled => only_written(rows, i, 9, assigned),
-        StmtClass::Null => only_written(rows, i, 9, assigned),
-        _ => DaResult::Ok(DaOut::Falls(assigned)),
+        StmtClass::Fork => only_written(rows, i, Reason::Forks, assigned),
+        StmtClass::Systask | StmtClass::Unmodelled | StmtClass::Null => {
+            only_written(rows, i, Reason::NotModelled, assigned)
+        }
+        _ => Ok(DaOut::Falls(assigned)),
     }
 }
 
@@ -377,7 +339,7 @@ pub fn da_leaf(
     ensures { result ≡ leaf_at (untimed ctx names.now) rows.now class i end assigned }
 {
     if reads::stmt_no_ref(rows, ctx.local, i, end) {
-        return DaResult::Ok(DaOut::Falls(assigned));
+        return Ok(DaOut::Falls(assigned));
     }
     da_referring(rows, names, ctx, class, i, end, assigned)
 }

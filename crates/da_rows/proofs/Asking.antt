@@ -1,20 +1,17 @@
 -- What is asked of expressions, from what stands in the code where it returns: by cases over the state and the effect. Of several
 -- expressions by induction over their list, in the code by a loop over siblings.
 use mathlib.Core.Path.{◌≡◌, refl, sym, ap, ◌∙◌}
-use mathlib.Core.Bool.{Bool, true, false, cond, not, ◌&&◌, not-not}
+use mathlib.Core.Bool.{Bool, true, false, cond, not, ◌&&◌}
 use mathlib.Core.List.{List, [], ◌∷◌}
 use Prim.Native.Nat.{ℕ, ◌+◌, ◌≤◌, ◌<◌}
 use native.Mathlib.Omega.{arith}
 use lib.Dec.{ltb}
 use borrow.Author.Rules.{rules}
-use borrow.Author.Tests.{lt-ltb, le-ltb, ltb-true, ltb-false}
-use Rattle.table.specs.Rows.{lo_at, hi_at, end_at, tree, Nested}
+use borrow.Author.Tests.{ltb-true, ltb-false}
+use Rattle.table.specs.Rows.{end_at, tree, Nested}
 use Rattle.table.specs.Steps.{RowEnd, NextRow}
 use Rattle.table.proofs.Fold.{fold_none, fold_some, fold_step}
 use Rattle.table.proofs.Loops.{Goes, goes_start, goes_on, loops}
-use Rattle.reads.specs.declared.Iff.TheVariants.{Skipped}
-use Rattle.reads.specs.Mentions.{refers}
-use Rattle.reads.specs.NoRef.{expr_no_ref}
 use Rattle.effect_rules.specs.declared.ExprDa.{ExprDa}
 use Rattle.effect_rules.specs.declared.ExprDa.TheVariants.{Clean, Writes, Reads}
 use Rattle.effect_rules.specs.declared.ExprEffect.{ExprEffect}
@@ -24,25 +21,12 @@ use Rattle.expr_effect.proofs.Facts.{fact_none, fact_lo, fact_hi}
 use Rattle.da.specs.declared.DaOut.{DaOut}
 use Rattle.da.specs.declared.DaOut.TheVariants.{Falls}
 use Rattle.da.specs.declared.DaGiveUp.{DaGiveUp}
-use Rattle.da.specs.declared.DaResult.{DaResult}
-use Rattle.da.specs.declared.DaResult.TheVariants.{Ok, Err}
-use Rattle.da.specs.Outcome.{State, is_written, gains, ◌▷◌}
+use Rattle.std.specs.Prelude.{Result, Ok, Err}
+use Rattle.da.specs.declared.Reason.TheVariants.{ReadUnwritten}
+use Rattle.da.specs.Outcome.{DaResult, State, is_written, gains, ◌▷◌}
 use Rattle.da.specs.Walk.{expr_reads, expr_out_writes, unless_read, unless_one_read, held_facts_at}
 use Rattle.da_rows.specs.declared.States.{States}
-use Rattle.da_rows.specs.declared.Evaluated.{Evaluated}
-use Rattle.da_rows.specs.declared.Evaluated.TheVariants.{To, ReadUnwritten}
-use Rattle.da_rows.specs.Steps.{first_lo, first_hi, facts_in, fact_in, held_in, states_after, evaluation, onward, give_up_at}
-
--- give_up and read_at
-pub gives_up : (rows : List ℕ) (i reason lo hi : ℕ) → lo ≡ lo_at rows i → hi ≡ hi_at rows i → ◌≡◌ {A = DaGiveUp} (record { reason = reason; lo = lo; hi = hi }) (give_up_at rows i reason)
-gives_up rows i reason lo hi p q = rw (p, q)
-
-module _ (rows : List ℕ) (from to : ℕ) where
-  pub reads_some : (stop : DaGiveUp) → from < to → stop ≡ give_up_at rows from 2 → stop ≡ record { reason = 2; lo = first_lo rows from to; hi = first_hi rows from to }
-  reads_some stop h e = e ∙ rw (lt-ltb from to h)
-
-  pub reads_none : to ≤ from → ◌≡◌ {A = DaGiveUp} (record { reason = 2; lo = 0; hi = 0 }) (record { reason = 2; lo = first_lo rows from to; hi = first_hi rows from to })
-  reads_none h = rw (le-ltb from to h)
+use Rattle.da_rows.specs.Steps.{first_lo, first_hi, facts_in, fact_in, held_in, always, states_after, evaluation, onward}
 
 -- the span of the facts of the first row
 module _ (x : ℕ) {rows : List ℕ} {from to : ℕ} (g : Nested rows from to) where
@@ -51,40 +35,41 @@ module _ (x : ℕ) {rows : List ℕ} {from to : ℕ} (g : Nested rows from to) w
   fact_span false q = let h : to ≤ from = ltb-false from to q in (rw (fact_none x rows from to h, q), rw (fact_none x rows from to h, q))
 
 -- evaluate: where all is written nothing is asked, where every row is quiet there is no effect, and else the effect decides
-pub evaluate_written : (e : ExprFacts) (a : State) → a ≡ true → To (record { after = true; when_true = true; when_false = true }) ≡ evaluation e a
+pub evaluate_written : (e : ExprFacts) (a : State) (states : States) → a ≡ true → states ≡ always true → Ok states ≡ evaluation e a
 unfolding evaluation
-evaluate_written e a h = rw h
+evaluate_written e a states h s = rw (h, s)
 
 module _ (x : ℕ) (rows : List ℕ) (from to : ℕ) (a : State) (o : ExprEffect) (h : a ≡ false) (told : EffectTold x (tree rows from to) o) where
   pub evaluate_reads : (stop : DaGiveUp)
       → o.effect ≡ Reads
       → Nested rows from to
-      → stop ≡ record { reason = 2; lo = first_lo rows from to; hi = first_hi rows from to }
-      → ReadUnwritten stop ≡ evaluation (fact_in x rows from to) a
+      → stop ≡ record { reason = ReadUnwritten; lo = first_lo rows from to; hi = first_hi rows from to }
+      → Err stop ≡ evaluation (fact_in x rows from to) a
   unfolding evaluation
   evaluate_reads stop q g e =
       let span = fact_span x g (ltb from to) refl in
       rw (e, h, told.facts, q, span.0, span.1)
 
-  pub evaluate_writes : o.effect ≡ Writes → To (record { after = true; when_true = true; when_false = true }) ≡ evaluation (fact_in x rows from to) a
+  pub evaluate_writes : (states : States) → o.effect ≡ Writes → states ≡ always true → Ok states ≡ evaluation (fact_in x rows from to) a
   unfolding evaluation
-  evaluate_writes q = rw (h, told.facts, q)
+  evaluate_writes states q s = rw (h, told.facts, q, s)
 
-  pub evaluate_clean : o.effect ≡ Clean → To (record { after = false; when_true = o.when_true; when_false = o.when_false }) ≡ evaluation (fact_in x rows from to) a
+  pub evaluate_clean : o.effect ≡ Clean → Ok (record { after = false; when_true = o.when_true; when_false = o.when_false }) ≡ evaluation (fact_in x rows from to) a
   unfolding evaluation
   evaluate_clean q = rw (h, told.facts, q)
 
-pub evaluate_quiet : (x : ℕ) (rows : List ℕ) (from to : ℕ) (a : State) (b : Bool)
+pub evaluate_quiet : (x : ℕ) (rows : List ℕ) (from to : ℕ) (a : State) (b : Bool) (states : States)
     → a ≡ false
     → (b ≡ true → EffectTold x (tree rows from to) no_effect)
     → b ≡ true
-    → To (record { after = false; when_true = false; when_false = false }) ≡ evaluation (fact_in x rows from to) a
-evaluate_quiet x rows from to a b h told t = evaluate_clean x rows from to a no_effect h (told t) refl
+    → states ≡ always false
+    → Ok states ≡ evaluation (fact_in x rows from to) a
+evaluate_quiet x rows from to a b states h told t s = ap Ok s ∙ evaluate_clean x rows from to a no_effect h (told t) refl
 
-pub ruleset evaluates = (gives_up, reads_some, reads_none, evaluate_written, evaluate_reads, evaluate_writes, evaluate_clean, evaluate_quiet)
+pub ruleset evaluates = (evaluate_written, evaluate_reads, evaluate_writes, evaluate_clean, evaluate_quiet)
 
 -- an expression of which no write is claimed is asked in the same way
-unless_onward : (e : ExprFacts) (a : State) (next : DaResult) → unless_read e a next ≡ onward (evaluation e a) (λ states. next)
+pub unless_onward : (e : ExprFacts) (a : State) (next : DaResult) → unless_read e a next ≡ onward (evaluation e a) (λ states. next)
 unfolding evaluation
 unless_onward e a next = go a e.effects.effect refl
   where
@@ -105,36 +90,36 @@ after_onward e a next = go a e.effects.effect refl
     go false Writes q = rw q
     go false Reads q = rw q
 
-goes_to : (b : Bool) (stop : DaGiveUp) (s t : States) → cond b (ReadUnwritten stop) (To s) ≡ To t → t ≡ s
+goes_to : (b : Bool) (stop : DaGiveUp) (s t : States) → cond b (Err stop) (Ok s) ≡ Ok t → t ≡ s
 goes_to true stop s t h = cc
 goes_to false stop s t h = cc
 
-module _ (e : ExprFacts) (a : State) (q : Evaluated) (v : q ≡ evaluation e a) where
-  pub unread_stops : (stop : DaGiveUp) (next : DaResult) → q ≡ ReadUnwritten stop → Err stop ≡ unless_read e a next
+module _ (e : ExprFacts) (a : State) (q : Result States DaGiveUp) (v : q ≡ evaluation e a) where
+  pub unread_stops : (stop : DaGiveUp) (next : DaResult) → q ≡ Err stop → Err stop ≡ unless_read e a next
   unread_stops stop next h = sym (unless_onward e a next ∙ rw (← v, h))
 
-  pub unread_goes : (states : States) (next : DaResult) → q ≡ To states → next ≡ unless_read e a next
+  pub unread_goes : (states : States) (next : DaResult) → q ≡ Ok states → next ≡ unless_read e a next
   unread_goes states next h = sym (unless_onward e a next ∙ rw (← v, h))
 
   -- the states that are told, and what follows where the read is asked of the one after
-  pub states_are : (states : States) → q ≡ To states → states ≡ states_after e a
+  pub states_are : (states : States) → q ≡ Ok states → states ≡ states_after e a
   unfolding evaluation
   states_are states h =
-      goes_to (not (is_written (gains (expr_out_writes e) a)) && expr_reads e) (record { reason = 2; lo = e.lo; hi = e.hi }) (states_after e a) states (sym v ∙ h)
+      goes_to (not (is_written (gains (expr_out_writes e) a)) && expr_reads e) (record { reason = ReadUnwritten; lo = e.lo; hi = e.hi }) (states_after e a) states (sym v ∙ h)
 
-  pub evaluated_stops : (stop : DaGiveUp) (next : DaResult) → q ≡ ReadUnwritten stop → Err stop ≡ unless_read e (gains (expr_out_writes e) a) next
+  pub evaluated_stops : (stop : DaGiveUp) (next : DaResult) → q ≡ Err stop → Err stop ≡ unless_read e (gains (expr_out_writes e) a) next
   evaluated_stops stop next h = sym (after_onward e a next ∙ rw (← v, h))
 
-  pub evaluated_goes : (states : States) (next : DaResult) → q ≡ To states → next ≡ unless_read e (gains (expr_out_writes e) a) next
+  pub evaluated_goes : (states : States) (next : DaResult) → q ≡ Ok states → next ≡ unless_read e (gains (expr_out_writes e) a) next
   evaluated_goes states next h = sym (after_onward e a next ∙ rw (← v, h))
 
 -- what follows an expression that may stop the walk
 pub unless_then : (e : ExprFacts) (a : State) (next : DaResult) → unless_read e a next ≡ unless_read e a (Ok (Falls a)) ▷ λ out. next
 unless_then e a next = unless_onward e a next ∙ go (evaluation e a) refl
   where
-    go : (q : Evaluated) → evaluation e a ≡ q → onward (evaluation e a) (λ states. next) ≡ unless_read e a (Ok (Falls a)) ▷ λ out. next
-    go (To states) h = rw (unless_onward e a (Ok (Falls a)), h)
-    go (ReadUnwritten stop) h = rw (unless_onward e a (Ok (Falls a)), h)
+    go : (q : Result States DaGiveUp) → evaluation e a ≡ q → onward (evaluation e a) (λ states. next) ≡ unless_read e a (Ok (Falls a)) ▷ λ out. next
+    go (Ok states) h = rw (unless_onward e a (Ok (Falls a)), h)
+    go (Err stop) h = rw (unless_onward e a (Ok (Falls a)), h)
 
 -- and several of them
 pub unless_one_then : (es : List ExprFacts) (a : State) (next : DaResult) → unless_one_read es a next ≡ unless_one_read es a (Ok (Falls a)) ▷ λ out. next
@@ -162,8 +147,8 @@ module _ (x : ℕ) (rows : List ℕ) (from to i : ℕ) (a : State) (w : Goes row
         ∙ unless_then (fact_in x rows i to) a (unless_one_read (facts_in x rows n to) a (Ok (Falls a)))
         ∙ rw (← e)
 
-    pub ones_stop : (stop : DaGiveUp) → r ≡ Err stop → r ≡ unless_one_read (facts_in x rows from to) a (Ok (Falls a))
-    ones_stop stop o = o ∙ sym (w.same ∙ ones_step (end_at rows i) refl ∙ rw o)
+    pub ones_stop : (stop : DaGiveUp) → r ≡ Err stop → Err stop ≡ unless_one_read (facts_in x rows from to) a (Ok (Falls a))
+    ones_stop stop o = sym (w.same ∙ ones_step (end_at rows i) refl ∙ rw o)
 
     pub ones_on : (out : DaOut) (n : ℕ) → r ≡ Ok out → RowEnd rows i to n → Goes rows from to n (unless_one_read (facts_in x rows from to) a (Ok (Falls a))) (unless_one_read (facts_in x rows n to) a (Ok (Falls a)))
     ones_on out n o t = goes_on w t (ones_step n t.is ∙ rw o)
@@ -194,8 +179,3 @@ module _ (x : ℕ) (rows : List ℕ) (from to : ℕ) (a : State) where
       go false e = held_none (ltb-false from to e)
 
 pub ruleset unread = (rules, loops, unread_stops, unread_goes, ones_start, ones_done, ones_stop, ones_on, held_none, held_some, held_bare)
-
--- refers_unwritten
-module _ (x : ℕ) (rows : List ℕ) (from to : ℕ) (a : State) where
-  pub refers_not : (clear : Bool) → a ≡ false → clear ≡ expr_no_ref x (tree rows from to) → not clear ≡ not a && refers Skipped x (tree rows from to)
-  refers_not clear h e = rw (h, e) (not-not (refers Skipped x (tree rows from to)))

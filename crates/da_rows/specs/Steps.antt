@@ -1,6 +1,6 @@
 -- How the code goes through the walk of da's Walk over rows of two lent tables: what it sees of them, what evaluating an expression comes
 -- to, what a row is to the statement that holds it, and what the arms of a case and the body of a loop come to. Definitions only.
-use Rattle.std.specs.Prelude.{Bool, true, false, cond, ◌&&◌, not, List, [], ℕ, ◌+◌, eqb, ltb}
+use Rattle.std.specs.Prelude.{Bool, true, false, cond, ◌&&◌, not, List, [], ℕ, ◌+◌, eqb, ltb, Result, Ok, Err}
 use Rattle.table.specs.Rows.{kind_at, side_at, lo_at, hi_at, end_at, tree}
 use Rattle.table.specs.Fold.{nth, tail}
 use Rattle.kinds.specs.declared.StmtClass.{StmtClass}
@@ -11,15 +11,13 @@ use Rattle.expr_effect.specs.Law.{ExprFacts, expr_facts, no_facts}
 use Rattle.loops.specs.Escape.{cannot_escapes}
 use Rattle.da.specs.Walk.{DaCtx, StmtRow, held_facts, stmt_row, expr_reads, expr_out_writes, gains_when, falls_written}
 use Rattle.da.specs.declared.DaGiveUp.{DaGiveUp}
-use Rattle.da.specs.declared.DaResult.{DaResult}
-use Rattle.da.specs.declared.DaResult.TheVariants.{Err}
-use Rattle.da.specs.Outcome.{State, is_written, gains}
+use Rattle.da.specs.declared.Reason.{Reason}
+use Rattle.da.specs.declared.Reason.TheVariants.{ReadUnwritten}
+use Rattle.da.specs.Outcome.{DaResult, State, is_written, gains}
 use Rattle.da.specs.declared.DaOut.{DaOut}
 use Rattle.da.specs.declared.DaOut.TheVariants.{Falls}
 use Rattle.da_rows.specs.declared.Context.{Context}
 use Rattle.da_rows.specs.declared.States.{States}
-use Rattle.da_rows.specs.declared.Evaluated.{Evaluated}
-use Rattle.da_rows.specs.declared.Evaluated.TheVariants.{To, ReadUnwritten}
 use Rattle.da_rows.specs.declared.Part.{Part}
 use Rattle.da_rows.specs.declared.Part.TheVariants.{Match, Default, Absent, Statement}
 
@@ -51,6 +49,10 @@ first_lo rows from to = cond (ltb from to) (lo_at rows from) 0
 abbrev pub first_hi : List ℕ → ℕ → ℕ → ℕ
 first_hi rows from to = cond (ltb from to) (hi_at rows from) 0
 
+-- the states after an expression whose value tells nothing
+abbrev pub always : State → States
+always written = record { after = written; when_true = written; when_false = written }
+
 -- the states after an expression, from this one: "let after = assigned || expr_out_writes(e, ..)", "after || expr_writes_when(e, ..,
 -- true)" and "... false)"
 abbrev pub states_after : ExprFacts → State → States
@@ -61,19 +63,19 @@ states_after e a = record {
 }
 
 -- "if !after && expr_reads(e, ..) { return Err(read(e)); }", or those states
-unfoldable pub evaluation : ExprFacts → State → Evaluated
+unfoldable pub evaluation : ExprFacts → State → Result States DaGiveUp
 evaluation e a =
     cond (not (is_written (gains (expr_out_writes e) a)) && expr_reads e)
-    (ReadUnwritten (record { reason = 2; lo = e.lo; hi = e.hi }))
-    (To (states_after e a))
+    (Err (record { reason = ReadUnwritten; lo = e.lo; hi = e.hi }))
+    (Ok (states_after e a))
 
 -- what follows an evaluation
-abbrev pub onward : Evaluated → (States → DaResult) → DaResult
-onward (To states) next = next states
-onward (ReadUnwritten stop) next = Err stop
+abbrev pub onward : Result States DaGiveUp → (States → DaResult) → DaResult
+onward (Ok states) next = next states
+onward (Err stop) next = Err stop
 
 -- a give-up at row i: "the others [carry] the statement's" span
-abbrev pub give_up_at : List ℕ → ℕ → ℕ → DaGiveUp
+abbrev pub give_up_at : List ℕ → ℕ → Reason → DaGiveUp
 give_up_at rows i reason = record { reason = reason; lo = lo_at rows i; hi = hi_at rows i }
 
 -- ast::CaseItem::Match, ast::CaseItem::Default, "an absent `else`", or a statement

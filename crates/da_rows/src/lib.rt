@@ -2,17 +2,17 @@
 // not written, and what a row is to the statement that holds it. da/mod.rs, over rows.
 #![tactic(auto)]
 
-ghost use Rattle.std.specs.Prelude.{◌≡◌, ◌&&◌, ◌||◌, not, ◌+◌, ◌*◌, ◌<◌, length};
+ghost use Rattle.std.specs.Prelude.{◌≡◌, ◌&&◌, ◌||◌, not, ◌+◌, ◌*◌, ◌<◌, length, Ok};
 ghost use Rattle.table.specs.Rows.{Nested, tree, end_at};
 ghost use Rattle.table.specs.Fold.{tail};
 ghost use Rattle.reads.specs.declared.Iff.TheVariants.{Skipped};
 ghost use Rattle.reads.specs.Mentions.{refers as refers_in};
 ghost use Rattle.da.specs.declared.DaOut.TheVariants.{Falls};
-ghost use Rattle.da.specs.declared.DaResult.TheVariants.{Ok};
+ghost use Rattle.da.specs.declared.Reason.TheVariants.{ReadUnwritten};
 ghost use Rattle.da.specs.Walk.{unless_read, unless_one_read, falls_written};
-ghost use Rattle.da_rows.specs.Steps.{first_lo, first_hi, fact_in, facts_in, held_in, evaluation, give_up_at, part_of_class, part_of_row, part_in, is_default_part, is_absent_part, labels_in, case_out, body_assigns};
+ghost use Rattle.da_rows.specs.Steps.{first_lo, first_hi, fact_in, facts_in, held_in, always as always_of, evaluation, give_up_at, part_of_class, part_of_row, part_in, is_default_part, is_absent_part, labels_in, case_out, body_assigns};
 
-use da::{DaGiveUp, DaOut, DaResult};
+use da::{DaGiveUp, DaOut, DaResult, Reason};
 use effect_rules::ExprDa;
 use kinds::StmtClass;
 
@@ -31,15 +31,21 @@ pub struct States {
     pub when_false: bool,
 }
 
-// What evaluating an expression comes to.
-#[derive(Clone, Copy)]
-pub enum Evaluated {
-    To(States),
-    ReadUnwritten(DaGiveUp),
+impl States {
+    // Whatever the value is.
+    fn always(written: bool) -> States
+        ensures { result ≡ always_of written }
+    {
+        States {
+            after: written,
+            when_true: written,
+            when_false: written,
+        }
+    }
 }
 
 // A give-up at row i.
-pub fn give_up(rows: &[u32], i: usize, reason: u32) -> DaGiveUp
+pub fn give_up(rows: &[u32], i: usize, reason: Reason) -> DaGiveUp
     requires { 5 * i + 4 < length rows.now }
     ensures { result ≡ give_up_at rows.now i reason }
 {
@@ -53,13 +59,13 @@ pub fn give_up(rows: &[u32], i: usize, reason: u32) -> DaGiveUp
 // Reason 2 at the first of the rows from `from` up to `to`.
 fn read_at(rows: &[u32], from: usize, to: usize) -> DaGiveUp
     requires { Nested rows.now from to }
-    ensures { result ≡ record { reason = 2; lo = first_lo rows.now from to; hi = first_hi rows.now from to } }
+    ensures { result ≡ record { reason = ReadUnwritten; lo = first_lo rows.now from to; hi = first_hi rows.now from to } }
 {
     if from < to {
-        give_up(rows, from, 2)
+        give_up(rows, from, Reason::ReadUnwritten)
     } else {
         DaGiveUp {
-            reason: 2,
+            reason: Reason::ReadUnwritten,
             lo: 0,
             hi: 0,
         }
@@ -68,34 +74,27 @@ fn read_at(rows: &[u32], from: usize, to: usize) -> DaGiveUp
 
 // The first of the rows from `from` up to `to`, an expression, is evaluated. Once the local is written, no row is looked at. Most
 // expressions have nothing to do with the local, which one flat pass over their rows tells; the effect is worked out for the others.
-pub fn evaluate(rows: &[u32], local: usize, from: usize, to: usize, assigned: bool) -> Evaluated
+pub fn evaluate(
+    rows: &[u32],
+    local: usize,
+    from: usize,
+    to: usize,
+    assigned: bool,
+) -> Result<States, DaGiveUp>
     requires { Nested rows.now from to }
     ensures { result ≡ evaluation (fact_in local rows.now from to) assigned }
 {
     if assigned {
-        return Evaluated::To(States {
-            after: true,
-            when_true: true,
-            when_false: true,
-        });
+        return Ok(States::always(true));
     }
     if expr_effect::all_quiet(rows, local, from, to) {
-        return Evaluated::To(States {
-            after: false,
-            when_true: false,
-            when_false: false,
-        });
+        return Ok(States::always(false));
     }
     let e = expr_effect::expr_writes_when(rows, local, from, to);
-    let effect = e.effect;
-    match effect {
-        ExprDa::Reads => Evaluated::ReadUnwritten(read_at(rows, from, to)),
-        ExprDa::Writes => Evaluated::To(States {
-            after: true,
-            when_true: true,
-            when_false: true,
-        }),
-        ExprDa::Clean => Evaluated::To(States {
+    match e.effect {
+        ExprDa::Reads => Err(read_at(rows, from, to)),
+        ExprDa::Writes => Ok(States::always(true)),
+        ExprDa::Clean => Ok(States {
             after: false,
             when_true: e.when_true,
             when_false: e.when_false,
@@ -104,15 +103,13 @@ pub fn evaluate(rows: &[u32], local: usize, from: usize, to: usize, assigned: bo
 }
 
 // The first of the rows from `from` up to `to`, an expression of which no write is claimed.
+#[tactic(auto, using(crate::proofs::Asking::unless_onward))]
 pub fn unless_read(rows: &[u32], local: usize, from: usize, to: usize, assigned: bool) -> DaResult
     requires { Nested rows.now from to }
     ensures { result ≡ unless_read (fact_in local rows.now from to) assigned (Ok (Falls assigned)) }
 {
-    let e = evaluate(rows, local, from, to, assigned);
-    match e {
-        Evaluated::ReadUnwritten(stop) => DaResult::Err(stop),
-        Evaluated::To(states) => DaResult::Ok(DaOut::Falls(assigned)),
-    }
+    evaluate(rows, local, from, to, assigned)?;
+    Ok(DaOut::Falls(assigned))
 }
 
 // Each of the rows from `from` up to `to`, expressions of which no write is claimed.
@@ -122,13 +119,10 @@ fn unless_one_read(rows: &[u32], local: usize, from: usize, to: usize, assigned:
 {
     let mut child = from;
     while child < to {
-        let r = unless_read(rows, local, child, to, assigned);
-        let DaResult::Ok(out) = r else {
-            return r;
-        };
+        unless_read(rows, local, child, to, assigned)?;
         child = table::row_end(rows, child, to);
     }
-    DaResult::Ok(DaOut::Falls(assigned))
+    Ok(DaOut::Falls(assigned))
 }
 
 // What the first of the rows from `from` up to `to` holds: the values of a delay.
@@ -143,7 +137,7 @@ pub fn unless_held_read(
     ensures { result ≡ unless_one_read (held_in local rows.now from to) assigned (Ok (Falls assigned)) }
 {
     if to <= from {
-        return DaResult::Ok(DaOut::Falls(assigned));
+        return Ok(DaOut::Falls(assigned));
     }
     let end = table::row_end(rows, from, to);
     unless_one_read(rows, local, from + 1, end, assigned)
@@ -162,7 +156,7 @@ pub fn unless_delay_read(
 {
     let next = table::next_at(rows, from, to);
     if next <= from + 1 {
-        return DaResult::Ok(DaOut::Falls(assigned));
+        return Ok(DaOut::Falls(assigned));
     }
     unless_held_read(rows, local, from, to, assigned)
 }
@@ -172,10 +166,7 @@ pub fn refers_unwritten(rows: &[u32], local: usize, from: usize, to: usize, assi
     requires { Nested rows.now from to }
     ensures { result ≡ not assigned && refers_in Skipped local (tree rows.now from to) }
 {
-    if assigned {
-        return false;
-    }
-    !reads::expr_no_ref(rows, local, from, to)
+    !assigned && !reads::no_ref(rows, local, from, to)
 }
 
 // What a row is to the statement that holds it.
@@ -193,8 +184,7 @@ fn part_of_class(class: StmtClass) -> Part
     match class {
         StmtClass::Match => Part::Match,
         StmtClass::Default => Part::Default,
-        StmtClass::Absent => Part::Absent,
-        StmtClass::NoStmt => Part::Absent,
+        StmtClass::Absent | StmtClass::NoStmt => Part::Absent,
         _ => Part::Statement,
     }
 }
@@ -211,13 +201,7 @@ pub fn is_default(rows: &[u32], i: usize) -> bool
     requires { 5 * i + 4 < length rows.now }
     ensures { result ≡ is_default_part (part_of_row rows.now i) }
 {
-    let part = part_of_row(rows, i);
-    match part {
-        Part::Default => true,
-        Part::Match => false,
-        Part::Absent => false,
-        Part::Statement => false,
-    }
+    matches!(part_of_row(rows, i), Part::Default)
 }
 
 // Whether no statement is the first of the rows from `from` up to `to`.
@@ -225,16 +209,7 @@ pub fn is_absent(rows: &[u32], from: usize, to: usize) -> bool
     requires { Nested rows.now from to }
     ensures { result ≡ is_absent_part (part_in rows.now from to) }
 {
-    if to <= from {
-        return true;
-    }
-    let part = part_of_row(rows, from);
-    match part {
-        Part::Absent => true,
-        Part::Match => false,
-        Part::Default => false,
-        Part::Statement => false,
-    }
+    to <= from || matches!(part_of_row(rows, from), Part::Absent)
 }
 
 // The labels of an arm, which stand after its body; `from` is its row, the first of the rows up to `to`.
@@ -258,45 +233,26 @@ pub fn unless_label_read(
     requires { Nested rows.now from to }
     ensures { result ≡ unless_one_read (labels_in local rows.now from to) assigned (Ok (Falls assigned)) }
 {
-    if to <= from {
-        return DaResult::Ok(DaOut::Falls(assigned));
+    if from < to && matches!(part_of_row(rows, from), Part::Match) {
+        return unless_arm_read(rows, local, from, to, assigned);
     }
-    let part = part_of_row(rows, from);
-    match part {
-        Part::Match => unless_arm_read(rows, local, from, to, assigned),
-        Part::Default => DaResult::Ok(DaOut::Falls(assigned)),
-        Part::Absent => DaResult::Ok(DaOut::Falls(assigned)),
-        Part::Statement => DaResult::Ok(DaOut::Falls(assigned)),
-    }
+    Ok(DaOut::Falls(assigned))
 }
 
 // What a case comes to, from what its arms do: without a default no arm may run.
 pub fn case_out(has_default: bool, after: bool, all: DaOut) -> DaOut
     ensures { result ≡ case_out has_default after all }
 {
-    if after {
-        return DaOut::Falls(after);
-    }
-    if has_default {
+    if has_default && !after {
         return all;
     }
     DaOut::Falls(after)
 }
 
-// What held before holds still, and so does what a test adds: a write, or that a case has a default.
-pub fn gains(wrote: bool, assigned: bool) -> bool
-    ensures { result ≡ assigned || wrote }
-{
-    if assigned { true } else { wrote }
-}
-
 fn falls_written(out: DaOut) -> bool
     ensures { result ≡ falls_written out }
 {
-    match out {
-        DaOut::Falls(a) => a,
-        DaOut::Jumps => false,
-    }
+    matches!(out, DaOut::Falls(true))
 }
 
 // loop_body_assigns, of the loop in row i and its body, the first of the rows from `from` up to `to`.
@@ -304,14 +260,9 @@ fn loop_body_assigns(rows: &[u32], i: usize, from: usize, to: usize, out: DaOut)
     requires { (Nested rows.now from to) × (i < from) }
     ensures { result ≡ body_assigns rows.now i from to out }
 {
-    if !falls_written(out) {
-        return false;
-    }
-    if table::side_at(rows, i) != 1 {
-        return false;
-    }
-    let next = table::next_at(rows, from, to);
-    loops::stmt_cannot_escape(rows, from, next)
+    falls_written(out)
+        && table::side_at(rows, i) == 1
+        && loops::stmt_cannot_escape(rows, from, table::next_at(rows, from, to))
 }
 
 // Whether the local is written after the rounds of a loop. Where it is so after the condition, the body is not looked at.
@@ -319,8 +270,5 @@ pub fn rounds_write(rows: &[u32], i: usize, from: usize, to: usize, out: DaOut, 
     requires { (Nested rows.now from to) × (i < from) }
     ensures { result ≡ after || body_assigns rows.now i from to out }
 {
-    if after {
-        return true;
-    }
-    loop_body_assigns(rows, i, from, to, out)
+    after || loop_body_assigns(rows, i, from, to, out)
 }

@@ -5,34 +5,35 @@ use mathlib.Core.Bool.{Bool, true, false, cond, not, ◌&&◌}
 use mathlib.Core.List.{List}
 use Prim.Native.Nat.{ℕ, ◌+◌, ◌≤◌, ◌<◌}
 use Rattle.table.specs.Rows.{kind_at, end_at, tree, Nested}
-use Rattle.table.specs.Steps.{RowEnd, RowAlone}
+use Rattle.table.specs.Steps.{RowEnd}
 use Rattle.table.specs.Fold.{nth}
 use Rattle.table.proofs.Fold.{fold_none, fold_some}
 use Rattle.kinds.specs.declared.StmtClass.{StmtClass}
 use Rattle.kinds.specs.declared.StmtClass.TheVariants as K
 use Rattle.kinds.specs.Named.{stmt_class}
-use Rattle.kinds.proofs.Below.{both_true, true_not_false}
+use Rattle.kinds.proofs.Below.{both_true}
 use Rattle.reads.specs.NoRef.{vetting, vetted, stmt_no_ref}
 use Rattle.da.specs.declared.DaOut.TheVariants.{Falls}
-use Rattle.da.specs.declared.DaResult.{DaResult}
-use Rattle.da.specs.declared.DaResult.TheVariants.{Ok}
-use Rattle.da.specs.Outcome.{State, is_written, give_up, ◌▷◌}
+use Rattle.std.specs.Prelude.{Ok}
+use Rattle.da.specs.declared.Reason.{Reason}
+use Rattle.da.specs.declared.Reason.TheVariants.{ControlReads}
+use Rattle.da.specs.Outcome.{DaResult, State, is_written, give_up, ◌▷◌}
 use Rattle.da.specs.Walk.{DaCtx, Walk, no_walk, held_facts, walk_of, walk_at, da_stmt}
 use Rattle.da_rows.specs.declared.Context.{Context}
 use Rattle.da_rows.specs.Steps.{untimed, stmt_at, facts_in, fact_in, held_in}
 use Rattle.da_rows.proofs.Asking.{unless_then, unless_one_then}
 use Rattle.da_leaf.specs.declared.Construct.{Construct}
-use Rattle.da_leaf.specs.declared.Construct.TheVariants.{StaysWritten, Controlled}
-use Rattle.da_leaf.specs.Steps.{construct_of, asks_first, stays_written, construct_from, LeafRow}
+use Rattle.da_leaf.specs.declared.Construct.TheVariants.{StaysWritten}
+use Rattle.da_leaf.specs.Steps.{construct_of, stays_written, construct_from}
 use Rattle.da_leaf.proofs.Written.{stays_falls}
-use Rattle.da_walk.specs.Steps.{walks_in, ControlRow, construct_at}
+use Rattle.da_walk.specs.Steps.{walks_in, construct_at}
 
 -- no row
 pub inner_none : (ctx : DaCtx) (rows : List ℕ) (from to : ℕ) (a : State) → to ≤ from → Ok (Falls a) ≡ da_stmt ctx (tree rows from to) a
 inner_none ctx rows from to a h = sym (ap (λ (ws : List Walk). (nth no_walk 0 ws).walk a) (fold_none (walk_at ctx) rows from to h))
 
 -- a test that gives up, before the body
-stop_then : (b : Bool) (reason lo hi : ℕ) (a : State) (body : DaResult) → cond b (give_up reason lo hi) body ≡ cond b (give_up reason lo hi) (Ok (Falls a)) ▷ λ out. body
+stop_then : (b : Bool) (reason : Reason) (lo hi : ℕ) (a : State) (body : DaResult) → cond b (give_up reason lo hi) body ≡ cond b (give_up reason lo hi) (Ok (Falls a)) ▷ λ out. body
 stop_then true reason lo hi a body = refl
 stop_then false reason lo hi a body = refl
 
@@ -64,7 +65,7 @@ module _ (c : Context) (rows names : List ℕ) (i end : ℕ) (a : State) where
   walked_by K.Repeat h = rw h
   walked_by K.Forever h = rw h
   walked_by K.Delayctrl h = rw h (unless_one_then (held_in c.local rows (i + 1) end) a _)
-  walked_by K.Eventctrl h = rw h (stop_then (not (is_written a) && (fact_in c.local rows (i + 1) end).refers) 8 _ _ a _)
+  walked_by K.Eventctrl h = rw h (stop_then (not (is_written a) && (fact_in c.local rows (i + 1) end).refers) ControlReads _ _ a _)
   walked_by K.Wait h = rw h (unless_then (fact_in c.local rows (i + 1) end) a _)
 
 -- da_stmt of a row is what its construct comes to
@@ -113,54 +114,4 @@ pub inner_by : (c : Context) (rows names : List ℕ) (from to end n : ℕ) (a : 
     → r ≡ da_stmt (untimed c names) (tree rows from to) a
 inner_by c rows names from to end n a class construct named r g h t p q e s v = v ∙ sym (row_from c rows names from to end a class g h t.is (q ∙ rw p) ∙ rw (← e, s))
 
--- a row that first asks does so from any state
-asks_first_lem : (class : StmtClass) (a : State) (named : Construct) → construct_from class a ≡ named → asks_first named ≡ true → asks_first (construct_of class) ≡ true
-asks_first_lem class a named e v = go (a && stays_written class) refl
-  where
-    go : (b : Bool) → a && stays_written class ≡ b → asks_first (construct_of class) ≡ true
-    go true s = true_not_false (rw (← e, s) at (sym v))
-    go false s = let z : construct_of class ≡ named = rw s at e in rw z v
-
--- what da_leaf asks of the row
-pub leaf_row : (rows : List ℕ) (from to end n : ℕ) (a : State) (class : StmtClass) (construct named : Construct)
-    → RowEnd rows from to end
-    → n ≡ kind_at rows from
-    → class ≡ stmt_class n
-    → construct ≡ construct_from class a
-    → construct ≡ named
-    → asks_first named ≡ true
-    → LeafRow rows class from end
-leaf_row rows from to end n a class construct named t p q e s v = record {
-  row = record { is = t.is; after = t.after; alone = t.alone; children = t.children };
-  is = q ∙ rw p;
-  leaf = asks_first_lem class a named (sym e ∙ s) v;
-}
-
--- what da_controlled asks
-pub control_row : (rows : List ℕ) (from to end n : ℕ) (a : State) (class : StmtClass) (construct : Construct)
-    → RowEnd rows from to end
-    → n ≡ kind_at rows from
-    → class ≡ stmt_class n
-    → construct ≡ construct_from class a
-    → construct ≡ Controlled
-    → ControlRow rows class from end
-control_row rows from to end n a class construct t p q e s = record {
-  leaf = leaf_row rows from to end n a class construct Controlled t p q e s refl;
-  controlled = go (a && stays_written class) refl;
-  row = t.alone;
-  after = t.after;
-  children = t.children;
-}
-  where
-    written_not : StaysWritten ≡ Controlled → construct_of class ≡ Controlled
-    written_not z = true_not_false (sym (ap asks_first z))
-
-    go : (b : Bool) → a && stays_written class ≡ b → construct_of class ≡ Controlled
-    go true v = written_not (rw v at (sym e ∙ s))
-    go false v = rw v at (sym e ∙ s)
-
--- and what the loops ask
-pub row_alone : (rows : List ℕ) (from to end : ℕ) → RowEnd rows from to end → RowAlone rows from end
-row_alone rows from to end t = record { is = t.is; after = t.after; alone = t.alone; children = t.children }
-
-pub ruleset dispatch = (inner_none, inner_by, leaf_row, control_row, row_alone)
+pub ruleset dispatch = (inner_none, inner_by)

@@ -1,7 +1,7 @@
 -- Statements that need not be walked where the local is written: what `passes_over` answers, and what its callers have of it. A timing
 -- control asks nothing of a written local, so that its body decides; deeper it does not look.
 use mathlib.Core.Path.{◌≡◌, refl, sym, ap, ◌∙◌}
-use mathlib.Core.Bool.{true, false, not, ◌&&◌}
+use mathlib.Core.Bool.{Bool, true, false, not, ◌&&◌}
 use mathlib.Core.List.{List}
 use Prim.Native.Nat.{ℕ, ◌+◌, ◌≤◌, ◌<◌}
 use borrow.Author.Tests.{not-false}
@@ -11,9 +11,8 @@ use Rattle.table.proofs.Fold.{fold_next}
 use Rattle.table.proofs.Loops.{Goes}
 use Rattle.kinds.specs.declared.StmtClass.{StmtClass}
 use Rattle.kinds.specs.Named.{stmt_class}
-use Rattle.kinds.proofs.Below.{true_not_false}
 use Rattle.da.specs.declared.DaOut.TheVariants.{Falls}
-use Rattle.da.specs.declared.DaResult.TheVariants.{Ok}
+use Rattle.std.specs.Prelude.{Ok}
 use Rattle.da.specs.Outcome.{State, written}
 use Rattle.da.specs.Walk.{Walk, no_walk, walk_at, da_stmt}
 use Rattle.da_rows.specs.declared.Context.{Context}
@@ -25,9 +24,6 @@ use Rattle.da_leaf.proofs.Written.{control_falls}
 use Rattle.da_walk.specs.Steps.{block_in, PassedOver, ControlRow, controlled_at}
 use Rattle.da_walk.proofs.Dispatch.{inner_none, row_walk, inner_stays}
 use Rattle.da_walk.proofs.Branching.{block_on}
-
-pub passed_not : (rows : List ℕ) (from to : ℕ) (a : State) → PassedOver rows from to a false
-passed_not rows from to a = record { falls = λ e. true_not_false (sym e) }
 
 pub passed_leaf : (rows : List ℕ) (from to : ℕ) (a b : State)
     → Nested rows from to
@@ -46,13 +42,13 @@ module _ (rows : List ℕ) (from to end body n : ℕ) (a : State) (class : StmtC
       ∙ rw (sym e ∙ s, not-false a w, control_falls c rows names from end class (sym e ∙ s))
       (sym (ap (λ (x : Walk). x.walk written) (fold_next (walk_at (untimed c names)) no_walk 0 t.children u.is)))
 
-  pub passed_bare : end ≤ body → PassedOver rows from to a true
-  passed_bare l = record { falls = λ x c names. inner_none (untimed c names) rows body end a l ∙ sym (control_walk c names) }
+  pub passed_bare : (b : Bool) → end ≤ body → PassedOver rows from to a b
+  passed_bare b l = record { falls = λ x c names. inner_none (untimed c names) rows body end a l ∙ sym (control_walk c names) }
 
   pub passed_body : (b : State) → body < end → b ≡ a && stays_written (stmt_class (kind_at rows body)) → PassedOver rows from to a b
   passed_body b l f = record { falls = λ x c names. inner_stays c rows names body end a b u.others l f x ∙ sym (control_walk c names) }
 
-pub ruleset passing = (passed_not, passed_leaf, passed_bare, passed_body)
+pub ruleset passing = (passed_leaf, passed_bare, passed_body)
 
 -- da_block goes on with the row after it
 pub block_stays : (c : Context) (rows names : List ℕ) (from to i : ℕ) (a₀ a b : State) (n : ℕ)

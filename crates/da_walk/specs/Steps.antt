@@ -1,6 +1,6 @@
 -- What the code answers on its way through the arms of da_stmt that walk statements. The rules are those of da's Walk; here they are
 -- taken from rows of a table. Definitions only.
-use Rattle.std.specs.Prelude.{◌≡◌, Bool, true, false, ◌||◌, List, ℕ, ◌+◌, ◌<◌}
+use Rattle.std.specs.Prelude.{◌≡◌, Bool, true, false, ◌||◌, List, ℕ, ◌+◌, ◌<◌, Ok}
 use Rattle.table.specs.Rows.{end_at, tree, Nested}
 use Rattle.table.specs.Steps.{NextRow}
 use Rattle.table.specs.Fold.{nth, tail}
@@ -11,9 +11,7 @@ use Rattle.loops.specs.Escape.{cannot_escapes}
 use Rattle.loops.specs.Time.{advances_time}
 use Rattle.da.specs.declared.DaOut.{DaOut}
 use Rattle.da.specs.declared.DaOut.TheVariants.{Falls, Jumps}
-use Rattle.da.specs.declared.DaResult.{DaResult}
-use Rattle.da.specs.declared.DaResult.TheVariants.{Ok}
-use Rattle.da.specs.Outcome.{State, merge, ◌▷◌}
+use Rattle.da.specs.Outcome.{DaResult, State, merge, ◌▷◌}
 use Rattle.da.specs.Walk.{DaCtx, Walk, no_walk, unless_one_read, else_from, if_else, block, arms, case_of, rounds, while_true, for_from, repeated, walks, da_stmt}
 use Rattle.da_rows.specs.declared.Context.{Context}
 use Rattle.da_rows.specs.declared.States.{States}

@@ -12,9 +12,9 @@ ghost use Rattle.da_rows.specs.Steps.{untimed};
 ghost use Rattle.da_walk.specs.Statement.{StatementIn};
 ghost use Rattle.da_walk.specs.Steps.{block_in, if_in, branches_in, else_in, case_in, arms_in, arm_in, PassedOver, ControlRow, controlled_at, LoopAt, rounds_at, ForRow, for_at, while_at, repeat_at, forever_at, advances_alone};
 
-use da::{DaOut, DaResult};
+use da::{DaOut, DaResult, Reason};
 use da_leaf::Construct;
-use da_rows::{Context, Evaluated, States};
+use da_rows::{Context, States};
 use kinds::StmtClass;
 
 // The walk of the first of the rows from `from` up to `to`. Whether time can advance has been asked of a statement that holds it.
@@ -31,13 +31,12 @@ fn da_inner(
     ensures { result ≡ da_stmt (untimed ctx names.now) (tree rows.now from to) assigned }
 {
     if to <= from {
-        return DaResult::Ok(DaOut::Falls(assigned));
+        return Ok(DaOut::Falls(assigned));
     }
     let end = table::row_end(rows, from, to);
     let class = kinds::stmt_class(table::kind_at(rows, from));
-    let construct = da_leaf::construct_from(class, assigned);
-    match construct {
-        Construct::StaysWritten => DaResult::Ok(DaOut::Falls(assigned)),
+    match da_leaf::construct_from(class, assigned) {
+        Construct::StaysWritten => Ok(DaOut::Falls(assigned)),
         Construct::Leaf => da_leaf::da_leaf(rows, names, ctx, class, from, end, assigned),
         Construct::Controlled => da_controlled(rows, names, ctx, class, from, end, assigned),
         Construct::Arm => da_inner(rows, names, ctx, from + 1, end, assigned),
@@ -63,16 +62,13 @@ fn passes_over(rows: &[u32], from: usize, to: usize, assigned: bool) -> bool
     if da_leaf::stays_written(rows, from, assigned) {
         return true;
     }
-    let construct = da_leaf::construct_of(kinds::stmt_class(table::kind_at(rows, from)));
-    let Construct::Controlled = construct else {
+    let class = kinds::stmt_class(table::kind_at(rows, from));
+    let Construct::Controlled = da_leaf::construct_of(class) else {
         return false;
     };
     let end = table::row_end(rows, from, to);
     let body = table::next_at(rows, from + 1, end);
-    if end <= body {
-        return true;
-    }
-    da_leaf::stays_written(rows, body, assigned)
+    end <= body || da_leaf::stays_written(rows, body, assigned)
 }
 
 // A delay, an event control or a wait in row i: what it asks, then its body.
@@ -90,12 +86,9 @@ fn da_controlled(
     ensures { result ≡ controlled_at (untimed ctx names.now) rows.now class i end assigned }
 {
     if passes_over(rows, i, end, assigned) {
-        return DaResult::Ok(DaOut::Falls(assigned));
+        return Ok(DaOut::Falls(assigned));
     }
-    let r = da_leaf::da_referring(rows, names, ctx, class, i, end, assigned);
-    let DaResult::Ok(out) = r else {
-        return r;
-    };
+    da_leaf::da_referring(rows, names, ctx, class, i, end, assigned)?;
     let body = table::next_at(rows, i + 1, end);
     da_inner(rows, names, ctx, body, end, assigned)
 }
@@ -117,21 +110,15 @@ fn da_block(
     let mut child = from;
     let mut a = assigned;
     while child < to {
-        if passes_over(rows, child, to, a) {
-            child = table::row_end(rows, child, to);
-        } else {
-            let r = da_inner(rows, names, ctx, child, to, a);
-            let DaResult::Ok(out) = r else {
-                return r;
-            };
-            let DaOut::Falls(next) = out else {
-                return r;
+        if !passes_over(rows, child, to, a) {
+            let DaOut::Falls(next) = da_inner(rows, names, ctx, child, to, a)? else {
+                return Ok(DaOut::Jumps);
             };
             a = next;
-            child = table::row_end(rows, child, to);
         }
+        child = table::row_end(rows, child, to);
     }
-    DaResult::Ok(DaOut::Falls(a))
+    Ok(DaOut::Falls(a))
 }
 
 // An if: the rows from `from` up to `to` are its condition and its arms.
@@ -147,14 +134,9 @@ fn da_if(
     requires { Nested rows.now from to }
     ensures { result ≡ if_in (untimed ctx names.now) rows.now from to assigned }
 {
-    let e = da_rows::evaluate(rows, ctx.local, from, to, assigned);
-    match e {
-        Evaluated::ReadUnwritten(stop) => DaResult::Err(stop),
-        Evaluated::To(states) => {
-            let then_at = table::next_at(rows, from, to);
-            da_branches(rows, names, ctx, then_at, to, states)
-        }
-    }
+    let states = da_rows::evaluate(rows, ctx.local, from, to, assigned)?;
+    let then_at = table::next_at(rows, from, to);
+    da_branches(rows, names, ctx, then_at, to, states)
 }
 
 // The arms of an if, the first two of the rows from `from` up to `to`, each from what its outcome of the condition writes.
@@ -170,12 +152,9 @@ fn da_branches(
     requires { Nested rows.now from to }
     ensures { result ≡ branches_in (untimed ctx names.now) rows.now from to states }
 {
-    let r = da_inner(rows, names, ctx, from, to, states.when_true);
-    let DaResult::Ok(a_then) = r else {
-        return r;
-    };
+    let a_then = da_inner(rows, names, ctx, from, to, states.when_true)?;
     let else_at = table::next_at(rows, from, to);
-    let s = da_else(
+    let a_else = da_else(
         rows,
         names,
         ctx,
@@ -183,11 +162,8 @@ fn da_branches(
         to,
         states.after,
         states.when_false,
-    );
-    let DaResult::Ok(a_else) = s else {
-        return s;
-    };
-    DaResult::Ok(da::merge(a_then, a_else))
+    )?;
+    Ok(a_then.merge(a_else))
 }
 
 // The else of an if, the first of the rows from `from` up to `to`. Where it is absent, what holds is what every path has after the
@@ -206,7 +182,7 @@ fn da_else(
     ensures { result ≡ else_in (untimed ctx names.now) rows.now from to after when_false }
 {
     if da_rows::is_absent(rows, from, to) {
-        return DaResult::Ok(DaOut::Falls(after));
+        return Ok(DaOut::Falls(after));
     }
     da_inner(rows, names, ctx, from, to, when_false)
 }
@@ -224,14 +200,9 @@ fn da_case(
     requires { Nested rows.now from to }
     ensures { result ≡ case_in (untimed ctx names.now) rows.now from to assigned }
 {
-    let e = da_rows::evaluate(rows, ctx.local, from, to, assigned);
-    match e {
-        Evaluated::ReadUnwritten(stop) => DaResult::Err(stop),
-        Evaluated::To(states) => {
-            let arms = table::next_at(rows, from, to);
-            da_arms(rows, names, ctx, arms, to, states.after)
-        }
-    }
+    let states = da_rows::evaluate(rows, ctx.local, from, to, assigned)?;
+    let arms = table::next_at(rows, from, to);
+    da_arms(rows, names, ctx, arms, to, states.after)
 }
 
 // The arms of a case, the rows from `from` up to `to`, each from the state after the scrutinee.
@@ -251,15 +222,12 @@ fn da_arms(
     let mut all = DaOut::Jumps;
     let mut has_default = false;
     while item < to {
-        let r = da_arm(rows, names, ctx, item, to, after);
-        let DaResult::Ok(arm) = r else {
-            return r;
-        };
-        all = da::merge(all, arm);
-        has_default = da_rows::gains(da_rows::is_default(rows, item), has_default);
+        let arm = da_arm(rows, names, ctx, item, to, after)?;
+        all = all.merge(arm);
+        has_default = has_default || da_rows::is_default(rows, item);
         item = table::row_end(rows, item, to);
     }
-    DaResult::Ok(da_rows::case_out(has_default, after, all))
+    Ok(da_rows::case_out(has_default, after, all))
 }
 
 // An arm, the first of the rows from `from` up to `to`: its labels, then its statement.
@@ -275,10 +243,7 @@ fn da_arm(
     requires { Nested rows.now from to }
     ensures { result ≡ arm_in (untimed ctx names.now) rows.now from to after }
 {
-    let r = da_rows::unless_label_read(rows, ctx.local, from, to, after);
-    let DaResult::Ok(out) = r else {
-        return r;
-    };
+    da_rows::unless_label_read(rows, ctx.local, from, to, after)?;
     da_inner(rows, names, ctx, from, to, after)
 }
 
@@ -298,12 +263,9 @@ fn da_rounds(
     requires { LoopAt rows.now row body end }
     ensures { result ≡ rounds_at (untimed ctx names.now) rows.now row body end after in_body }
 {
-    let r = da_inner(rows, names, ctx, body, end, in_body);
-    let DaResult::Ok(body_out) = r else {
-        return r;
-    };
+    let body_out = da_inner(rows, names, ctx, body, end, in_body)?;
     let wrote = da_rows::rounds_write(rows, row, body, end, body_out, after);
-    DaResult::Ok(DaOut::Falls(wrote))
+    Ok(DaOut::Falls(wrote))
 }
 
 // Where the condition, the step and the body of a for start.
@@ -339,27 +301,13 @@ fn da_for(
     requires { RowAlone rows.now i end }
     ensures { result ≡ for_at (untimed ctx names.now) rows.now i end assigned }
 {
-    let r = da_inner(rows, names, ctx, i + 1, end, assigned);
-    let DaResult::Ok(out) = r else {
-        return r;
-    };
+    let init = da_inner(rows, names, ctx, i + 1, end, assigned)?;
     let parts = for_parts(rows, i, end);
-    let e = da_rows::evaluate(rows, ctx.local, parts.test, end, da::state(out));
-    match e {
-        Evaluated::ReadUnwritten(stop) => DaResult::Err(stop),
-        Evaluated::To(states) => {
-            let q = da_inner(rows, names, ctx, parts.body, end, states.when_true);
-            let DaResult::Ok(body_out) = q else {
-                return q;
-            };
-            let s = da_inner(rows, names, ctx, parts.step, parts.body, states.when_true);
-            let DaResult::Ok(step_out) = s else {
-                return s;
-            };
-            let wrote = da_rows::rounds_write(rows, i, parts.body, end, body_out, states.after);
-            DaResult::Ok(DaOut::Falls(wrote))
-        }
-    }
+    let states = da_rows::evaluate(rows, ctx.local, parts.test, end, init.state())?;
+    let body_out = da_inner(rows, names, ctx, parts.body, end, states.when_true)?;
+    da_inner(rows, names, ctx, parts.step, parts.body, states.when_true)?;
+    let wrote = da_rows::rounds_write(rows, i, parts.body, end, body_out, states.after);
+    Ok(DaOut::Falls(wrote))
 }
 
 #[cycle(walk)]
@@ -375,20 +323,17 @@ fn da_while(
     ensures { result ≡ while_at (untimed ctx names.now) rows.now i end assigned }
 {
     let body = table::next_at(rows, i + 1, end);
-    let e = da_rows::evaluate(rows, ctx.local, i + 1, end, assigned);
-    match e {
-        Evaluated::ReadUnwritten(stop) => DaResult::Err(stop),
-        Evaluated::To(states) => da_rounds(
-            rows,
-            names,
-            ctx,
-            i,
-            body,
-            end,
-            states.after,
-            states.when_true,
-        ),
-    }
+    let states = da_rows::evaluate(rows, ctx.local, i + 1, end, assigned)?;
+    da_rounds(
+        rows,
+        names,
+        ctx,
+        i,
+        body,
+        end,
+        states.after,
+        states.when_true,
+    )
 }
 
 // A repeat: its count is evaluated once, and tells nothing of a round.
@@ -405,20 +350,8 @@ fn da_repeat(
     ensures { result ≡ repeat_at (untimed ctx names.now) rows.now i end assigned }
 {
     let body = table::next_at(rows, i + 1, end);
-    let e = da_rows::evaluate(rows, ctx.local, i + 1, end, assigned);
-    match e {
-        Evaluated::ReadUnwritten(stop) => DaResult::Err(stop),
-        Evaluated::To(states) => da_rounds(
-            rows,
-            names,
-            ctx,
-            i,
-            body,
-            end,
-            states.after,
-            states.after,
-        ),
-    }
+    let states = da_rows::evaluate(rows, ctx.local, i + 1, end, assigned)?;
+    da_rounds(rows, names, ctx, i, body, end, states.after, states.after)
 }
 
 #[cycle(walk)]
@@ -441,11 +374,7 @@ fn suspends(rows: &[u32], ctx: Context, from: usize, to: usize) -> bool
     requires { (Nested rows.now from to) × (from < to) }
     ensures { result ≡ not ctx.sole && advances_alone rows.now from }
 {
-    if ctx.sole {
-        return false;
-    }
-    let end = table::row_end(rows, from, to);
-    loops::stmt_advances_time(rows, from, end)
+    !ctx.sole && loops::stmt_advances_time(rows, from, table::row_end(rows, from, to))
 }
 
 // da_stmt of the first of the rows from `from` up to `to`, a statement. If time can advance in a statement of it, it can in this one,
@@ -463,7 +392,7 @@ pub fn da_stmt(
     ensures means { WalkMeans ctx.local (marks_of names.now) (tree rows.now from to) assigned result }
 {
     if suspends(rows, ctx, from, to) {
-        return DaResult::Err(da_rows::give_up(rows, from, 1));
+        return Err(da_rows::give_up(rows, from, Reason::SharedNet));
     }
     da_inner(rows, names, ctx, from, to, assigned)
 }

@@ -1,8 +1,8 @@
 // What an expression's row does to the local, from what its operands do: the rules of da/expr_effect.rs, which look at no row.
 #![tactic(auto)]
 
-ghost use Rattle.std.specs.Prelude.{◌≡◌, true, false, ◌||◌};
-ghost use Rattle.effect_rules.specs.Rules.{join as join_of, short_circuit, one_arm, after_cond, effect_of, operands_write, vetted_effect};
+ghost use Rattle.std.specs.Prelude.{◌≡◌};
+ghost use Rattle.effect_rules.specs.Rules.{join as join_of, short_circuit, one_arm, after_cond, effect_of, writes_when, operands_write, vetted_effect};
 
 // What evaluating an expression does to the local, as in the Rust.
 #[derive(Clone, Copy)]
@@ -23,6 +23,26 @@ pub struct ExprEffect {
     pub when_false: bool,
 }
 
+impl ExprEffect {
+    // Nothing evaluated.
+    pub const NONE: ExprEffect = ExprEffect {
+        effect: ExprDa::Clean,
+        when_true: false,
+        when_false: false,
+    };
+
+    // Whether the local is written once the value is known to be `outcome`.
+    pub fn writes_when(self, outcome: bool) -> bool
+        ensures { result ≡ writes_when self outcome }
+    {
+        if outcome {
+            self.when_true
+        } else {
+            self.when_false
+        }
+    }
+}
+
 // The effect of a row, and what its operands write once the row is true, and once it is false: what the row itself writes
 // takes its own effect into account.
 #[derive(Clone, Copy)]
@@ -30,6 +50,15 @@ pub struct RowEffect {
     pub effect: ExprDa,
     pub operands_true: bool,
     pub operands_false: bool,
+}
+
+impl RowEffect {
+    // No row.
+    pub const NONE: RowEffect = RowEffect {
+        effect: ExprDa::Clean,
+        operands_true: false,
+        operands_false: false,
+    };
 }
 
 // What the Rust's match tells apart: a paren's inner expression, logical not, the operand of another unary operator, && and
@@ -51,18 +80,10 @@ pub enum Form {
 fn join(l: ExprDa, r: ExprDa) -> ExprDa
     ensures { result ≡ join_of l r }
 {
-    match l {
-        ExprDa::Reads => ExprDa::Reads,
-        ExprDa::Writes => match r {
-            ExprDa::Reads => ExprDa::Reads, // it may come first
-            ExprDa::Writes => ExprDa::Writes,
-            ExprDa::Clean => ExprDa::Writes,
-        },
-        ExprDa::Clean => match r {
-            ExprDa::Reads => ExprDa::Reads,
-            ExprDa::Writes => ExprDa::Writes,
-            ExprDa::Clean => ExprDa::Clean,
-        },
+    match (l, r) {
+        (ExprDa::Reads, _) | (_, ExprDa::Reads) => ExprDa::Reads, // it may come first
+        (ExprDa::Writes, _) | (_, ExprDa::Writes) => ExprDa::Writes,
+        (ExprDa::Clean, ExprDa::Clean) => ExprDa::Clean,
     }
 }
 
@@ -71,14 +92,10 @@ fn join(l: ExprDa, r: ExprDa) -> ExprDa
 fn short_circuit(l: ExprDa, r: ExprDa, wrote: bool) -> ExprDa
     ensures { result ≡ short_circuit l r wrote }
 {
-    match l {
-        ExprDa::Reads => ExprDa::Reads,
-        ExprDa::Writes => ExprDa::Writes,
-        ExprDa::Clean => match r {
-            ExprDa::Reads => if wrote { ExprDa::Clean } else { ExprDa::Reads },
-            ExprDa::Writes => ExprDa::Clean, // the right may not be evaluated
-            ExprDa::Clean => ExprDa::Clean,
-        },
+    match (l, r) {
+        (ExprDa::Reads | ExprDa::Writes, _) => l,
+        (ExprDa::Clean, ExprDa::Reads) => if wrote { ExprDa::Clean } else { ExprDa::Reads },
+        (ExprDa::Clean, ExprDa::Writes | ExprDa::Clean) => ExprDa::Clean, // the right may not be evaluated
     }
 }
 
@@ -86,18 +103,9 @@ fn short_circuit(l: ExprDa, r: ExprDa, wrote: bool) -> ExprDa
 fn one_arm(t: ExprDa, f: ExprDa) -> ExprDa
     ensures { result ≡ one_arm t f }
 {
-    match t {
-        ExprDa::Reads => ExprDa::Reads,
-        ExprDa::Writes => match f {
-            ExprDa::Reads => ExprDa::Reads,
-            ExprDa::Writes => ExprDa::Clean, // as in the Rust, though one of them runs
-            ExprDa::Clean => ExprDa::Clean,
-        },
-        ExprDa::Clean => match f {
-            ExprDa::Reads => ExprDa::Reads,
-            ExprDa::Writes => ExprDa::Clean,
-            ExprDa::Clean => ExprDa::Clean,
-        },
+    match (t, f) {
+        (ExprDa::Reads, _) | (_, ExprDa::Reads) => ExprDa::Reads,
+        _ => ExprDa::Clean, // where both write too, as in the Rust, though one of them runs
     }
 }
 
@@ -106,8 +114,7 @@ fn after_cond(c: ExprDa, arms: ExprDa) -> ExprDa
     ensures { result ≡ after_cond c arms }
 {
     match c {
-        ExprDa::Reads => ExprDa::Reads,
-        ExprDa::Writes => ExprDa::Writes,
+        ExprDa::Reads | ExprDa::Writes => c,
         ExprDa::Clean => arms,
     }
 }
@@ -125,9 +132,7 @@ pub fn effect_of(form: Form, refers: bool, a: ExprEffect, b: ExprEffect, c: Expr
     let second = b.effect;
     let third = c.effect;
     match form {
-        Form::Inner => first,
-        Form::LogNot => first,
-        Form::Operand => first,
+        Form::Inner | Form::LogNot | Form::Operand => first,
         Form::LogAnd => short_circuit(first, second, a.when_true),
         Form::LogOr => short_circuit(first, second, a.when_false),
         Form::Operands => join(first, second),
@@ -137,42 +142,15 @@ pub fn effect_of(form: Form, refers: bool, a: ExprEffect, b: ExprEffect, c: Expr
     }
 }
 
-fn either_writes(a: bool, b: bool) -> bool
-    ensures { result ≡ a || b }
-{
-    if a { true } else { b }
-}
-
-// What a clean row's operands write once the row is true.
-pub fn writes_when_true(form: Form, a: ExprEffect, b: ExprEffect) -> bool
-    ensures { result ≡ operands_write form true a b }
+// What a clean row's operands write once the row is known to be `outcome`. The left alone may have made && false, and || true.
+pub fn operands_write(form: Form, outcome: bool, a: ExprEffect, b: ExprEffect) -> bool
+    ensures { result ≡ operands_write form outcome a b }
 {
     match form {
-        Form::Inner => a.when_true,
-        Form::LogNot => a.when_false,
-        Form::LogAnd => either_writes(a.when_true, b.when_true),
-        Form::LogOr => false, // the left alone may have made it true
-        Form::Operand => false,
-        Form::Operands => false,
-        Form::Arms => false,
-        Form::CallWrites => false,
-        Form::Vetted => false,
-    }
-}
-
-// What a clean row's operands write once the row is false.
-pub fn writes_when_false(form: Form, a: ExprEffect, b: ExprEffect) -> bool
-    ensures { result ≡ operands_write form false a b }
-{
-    match form {
-        Form::Inner => a.when_false,
-        Form::LogNot => a.when_true,
-        Form::LogAnd => false, // the left alone may have made it false
-        Form::LogOr => either_writes(a.when_false, b.when_false),
-        Form::Operand => false,
-        Form::Operands => false,
-        Form::Arms => false,
-        Form::CallWrites => false,
-        Form::Vetted => false,
+        Form::Inner => a.writes_when(outcome),
+        Form::LogNot => a.writes_when(!outcome),
+        Form::LogAnd => outcome && (a.when_true || b.when_true),
+        Form::LogOr => !outcome && (a.when_false || b.when_false),
+        Form::Operand | Form::Operands | Form::Arms | Form::CallWrites | Form::Vetted => false,
     }
 }

@@ -1,4 +1,3 @@
-pub mod RowForms
 pub mod Operands
 pub mod Laws
 pub mod Rust

@@ -1,9 +1,7 @@
--- The answers at the first row of a range, from those at its children, and that the ranges of its operands are smaller, which is what
--- falls in the cycle of expr_da and expr_writes_when.
-use Prim.Native.Nat.{ℕ, ◌+◌, ◌-◌, ◌*◌, ◌≤◌, ◌<◌}
-use native.Mathlib.Omega.{arith}
+-- The answers at the first row of a range, from those at its children.
+use Prim.Native.Nat.{ℕ, ◌+◌, ◌≤◌, ◌<◌}
 use mathlib.Core.Path.{◌≡◌, refl, sym, ◌∙◌}
-use mathlib.Core.Bool.{Bool, true, false, not}
+use mathlib.Core.Bool.{Bool, true, false}
 use mathlib.Core.List.{List}
 use Rattle.table.specs.Rows.{Forest, nil, node, tree, Nested}
 use Rattle.table.specs.Fold.{fold}
@@ -12,7 +10,6 @@ use Rattle.table.proofs.Fold.{fold_next}
 use Rattle.kinds.proofs.Below.{true_not_false}
 use Rattle.reads.specs.declared.Iff.TheVariants.{Skipped}
 use Rattle.reads.specs.Mentions.{refers}
-use Rattle.reads.specs.NoRef.{expr_no_ref}
 use Rattle.effect_rules.specs.declared.ExprEffect.{ExprEffect}
 use Rattle.effect_rules.specs.declared.RowEffect.{RowEffect}
 use Rattle.expr_effect.specs.declared.Places.{Places}
@@ -46,18 +43,6 @@ unasked LogAnd n a b c d e f w = true_not_false (sym w)
 unasked LogOr n a b c d e f w = true_not_false (sym w)
 unasked Operands n a b c d e f w = true_not_false (sym w)
 unasked Arms n a b c d e f w = true_not_false (sym w)
-
-not_not : (b : Bool) → not (not b) ≡ b
-not_not true = refl
-not_not false = refl
-
--- what `whole` answers
-pub whole_told : (x : ℕ) (rows : List ℕ) (from to : ℕ) (m : Form) (clear : Bool) (r : RowEffect) (none : ExprEffect)
-    → none ≡ no_effect
-    → clear ≡ expr_no_ref x (tree rows from to)
-    → r ≡ combined m (not clear) none none none
-    → r ≡ combined m (refers Skipped x (tree rows from to)) no_effect no_effect no_effect
-whole_told x rows from to m clear r none pn pc p = p ∙ rw (pn, pc, not_not (refers Skipped x (tree rows from to)))
 
 -- no row
 pub unguarded_none : (x : ℕ) (rows : List ℕ) (from to : ℕ) → to ≤ from → no_row_effect ≡ unguarded x (tree rows from to)
@@ -98,18 +83,4 @@ effect_first x (node k s lo hi cs others) = refl
 pub effect_guarded : (x : ℕ) (rows : List ℕ) (from to : ℕ) (o : RowEffect) (r : ExprEffect) → o ≡ unguarded x (tree rows from to) → r ≡ guarded o → r ≡ expr_effect_of x (tree rows from to) 0
 effect_guarded x rows from to o r p q = q ∙ rw p (sym (effect_first x (tree rows from to)))
 
--- the operands' ranges are smaller
-module _ (rows : List ℕ) (from to : ℕ) (o : Places) (po : PlacesTold rows from to o) (u : ℕ) (pu : 2 * (to - from) ≡ u) where
-  less : (i : ℕ) → from + 1 ≤ i → 2 * (o.end - i) + 1 < u
-  less i l = omega (arith, po.after, po.within)
-
-  pub first_less : 2 * (o.end - (from + 1)) + 1 < u
-  first_less = less (from + 1) (omega arith)
-
-  pub second_less : 2 * (o.end - o.second) + 1 < u
-  second_less = less o.second po.second_after
-
-  pub third_less : 2 * (o.end - o.third) + 1 < u
-  third_less = less o.third po.third_after
-
-pub ruleset answers = (whole_told, unguarded_none, unguarded_whole, unguarded_operands, effect_guarded, first_less, second_less, third_less)
+pub ruleset answers = (unguarded_none, unguarded_whole, unguarded_operands, effect_guarded)

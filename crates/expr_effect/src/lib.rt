@@ -13,7 +13,7 @@ ghost use Rattle.expr_effect.specs.Effect.{expr_effect_of};
 ghost use Rattle.expr_effect.specs.Law.{DaTold, EffectTold};
 ghost use Rattle.expr_effect.specs.Steps.{PlacesTold, unguarded};
 
-use effect_rules::{ExprDa, ExprEffect, Form, RowEffect};
+use effect_rules::{ExprEffect, Form, RowEffect};
 
 mod row_effect; // row_effect.rt: the arm of the Rust's match that a row comes to, and the row's effect by it
 
@@ -59,8 +59,8 @@ fn whole(rows: &[u32], local: usize, form: Form, from: usize, to: usize) -> RowE
     requires { Nested rows.now from to }
     ensures { result ≡ combined form (refers Skipped local (tree rows.now from to)) no_effect no_effect no_effect }
 {
-    let none = row_effect::nothing();
-    let clear = reads::expr_no_ref(rows, local, from, to);
+    let none = ExprEffect::NONE;
+    let clear = reads::no_ref(rows, local, from, to);
     row_effect::combine(form, !clear, none, none, none)
 }
 
@@ -73,11 +73,7 @@ pub fn expr_da(rows: &[u32], local: usize, from: usize, to: usize) -> RowEffect
     ensures means { DaTold local (tree rows.now from to) result }
 {
     if to <= from {
-        return RowEffect {
-            effect: ExprDa::Clean,
-            operands_true: false,
-            operands_false: false,
-        };
+        return RowEffect::NONE;
     }
     let operands = operands_of(rows, from, to);
     let form = operands.form;

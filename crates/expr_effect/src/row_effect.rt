@@ -1,11 +1,12 @@
 // A row of an expression: the arm of the Rust's match that it comes to, and its effect and writing by the rules of that arm.
 ghost use Rattle.std.specs.Prelude.{◌≡◌};
-ghost use Rattle.effect_rules.specs.Rules.{unary_form, binary_form, call_form, form_of, combined, guarded, no_effect};
+ghost use Rattle.effect_rules.specs.Rules.{unary_form, binary_form, call_form, form_of, combined, guarded};
 ghost use Rattle.effect_rules.specs.Steps.{is_whole};
 
 use effect_rules::{ExprDa, ExprEffect, Form, RowEffect};
 use kinds::ExprClass;
 
+#[tactic(auto, unfolding(effect_rules::specs::Rules::unary_form))]
 fn unary_form(side: usize) -> Form
     ensures { result ≡ unary_form side }
 {
@@ -16,6 +17,7 @@ fn unary_form(side: usize) -> Form
     }
 }
 
+#[tactic(auto, unfolding(effect_rules::specs::Rules::binary_form))]
 fn binary_form(side: usize) -> Form
     ensures { result ≡ binary_form side }
 {
@@ -26,6 +28,7 @@ fn binary_form(side: usize) -> Form
     }
 }
 
+#[tactic(auto, unfolding(effect_rules::specs::Rules::call_form))]
 fn call_form(side: usize) -> Form
     ensures { result ≡ call_form side }
 {
@@ -45,11 +48,11 @@ pub fn form_of(class: ExprClass, side: usize) -> Form
         ExprClass::Binary => binary_form(side),
         ExprClass::Ternary => Form::Arms,
         ExprClass::Call => call_form(side),
-        ExprClass::Ident => Form::Vetted,
-        ExprClass::Lident => Form::Vetted,
-        ExprClass::Opaque => Form::Vetted,
-        ExprClass::Event => Form::Vetted,
-        ExprClass::Other => Form::Vetted,
+        ExprClass::Ident
+        | ExprClass::Lident
+        | ExprClass::Opaque
+        | ExprClass::Event
+        | ExprClass::Other => Form::Vetted,
     }
 }
 
@@ -57,17 +60,7 @@ pub fn form_of(class: ExprClass, side: usize) -> Form
 pub fn is_whole(form: Form) -> bool
     ensures { result ≡ is_whole form }
 {
-    match form {
-        Form::CallWrites => true,
-        Form::Vetted => true,
-        Form::Inner => false,
-        Form::LogNot => false,
-        Form::Operand => false,
-        Form::LogAnd => false,
-        Form::LogOr => false,
-        Form::Operands => false,
-        Form::Arms => false,
-    }
+    matches!(form, Form::CallWrites | Form::Vetted)
 }
 
 pub fn combine(form: Form, refers: bool, a: ExprEffect, b: ExprEffect, c: ExprEffect) -> RowEffect
@@ -75,8 +68,8 @@ pub fn combine(form: Form, refers: bool, a: ExprEffect, b: ExprEffect, c: ExprEf
 {
     RowEffect {
         effect: effect_rules::effect_of(form, refers, a, b, c),
-        operands_true: effect_rules::writes_when_true(form, a, b),
-        operands_false: effect_rules::writes_when_false(form, a, b),
+        operands_true: effect_rules::operands_write(form, true, a, b),
+        operands_false: effect_rules::operands_write(form, false, a, b),
     }
 }
 
@@ -85,33 +78,14 @@ pub fn combine(form: Form, refers: bool, a: ExprEffect, b: ExprEffect, c: ExprEf
 pub fn guard(row: RowEffect) -> ExprEffect
     ensures { result ≡ guarded row }
 {
-    let effect = row.effect;
-    match effect {
-        ExprDa::Writes => ExprEffect {
-            effect: ExprDa::Writes,
-            when_true: true,
-            when_false: true,
-        },
-        ExprDa::Reads => ExprEffect {
-            effect: ExprDa::Reads,
-            when_true: false,
-            when_false: false,
-        },
-        ExprDa::Clean => ExprEffect {
-            effect: ExprDa::Clean,
-            when_true: row.operands_true,
-            when_false: row.operands_false,
-        },
-    }
-}
-
-// Nothing evaluated.
-pub fn nothing() -> ExprEffect
-    ensures { result ≡ no_effect }
-{
+    let (when_true, when_false) = match row.effect {
+        ExprDa::Writes => (true, true),
+        ExprDa::Reads => (false, false),
+        ExprDa::Clean => (row.operands_true, row.operands_false),
+    };
     ExprEffect {
-        effect: ExprDa::Clean,
-        when_true: false,
-        when_false: false,
+        effect: row.effect,
+        when_true,
+        when_false,
     }
 }

@@ -2,39 +2,23 @@
 // number has no zero in front and at most 18 digits. A read that fails ends the reading with its error.
 #![tactic(auto)]
 
-ghost use Rattle.std.specs.Prelude.{◌≡◌, ◌≤◌, length, take, IfOk, OnErr};
+ghost use Rattle.std.specs.Prelude.{◌≡◌, ◌≤◌, length, take, IfOk, IfSome, OnErr};
 ghost use Rattle.std.specs.Io.KnownBytes.{Consumes};
 ghost use Rattle.frames.specs.Inputs.{Advances, AdvancesInto};
 
 use std::io;
 use std::io::Read;
+use thiserror::Error;
 
-// What came: nothing, since the input has ended; a frame; a line that is no size; or fewer bytes than the size said.
-#[derive(Clone, Copy)]
-pub enum Came {
-    Nothing,
-    Whole,
+// Why there is no frame, though the input has not ended.
+#[derive(Debug, Drop, Error)]
+pub enum FrameError {
+    #[error(transparent)]
+    Read(#[from] io::Error),
+    #[error("its first line is no size")]
     NoSize,
+    #[error("the input ends before its size")]
     Short,
-}
-
-// A frame, and how many of its bytes are kept.
-#[derive(Clone, Copy)]
-pub struct Frame {
-    pub came: Came,
-    pub size: usize,
-}
-
-// What stands at the start of a frame.
-#[derive(Clone, Copy)]
-enum Start {
-    Nothing,
-    Size(usize),
-    NoSize,
-}
-
-fn usize_of_byte(byte: u8) -> usize {
-    byte as usize
 }
 
 // Reads until the slice is full or the input ends, and answers how many bytes came. An error is that of a read, which leaves in the slice
@@ -56,77 +40,49 @@ pub fn read_full<R: Read>(input: &mut R, space: &mut [u8]) -> io::Result<usize>
     Ok(done)
 }
 
-// The next byte, or 256 where the input has ended.
-fn next_byte<R: Read>(input: &mut R) -> io::Result<usize>
+// The next byte; none where the input has ended.
+fn next_byte<R: Read>(input: &mut R) -> io::Result<Option<u8>>
     ensures { Advances (R.remaining input.old) (R.remaining input.new) }
 {
     let mut one = [0u8; 1];
     let got = read_full(input, &mut one)?;
-    if got == 0 {
-        return Ok(256);
-    }
-    Ok(usize_of_byte(one[0]))
+    Ok((0 < got).then_some(one[0]))
 }
 
-fn is_digit(byte: usize) -> bool {
-    if byte < 48 {
-        return false;
-    }
-    byte <= 57
-}
-
-// The size once one more digit is read.
-fn with_digit(size: usize, byte: usize) -> usize {
-    if 100000000000000000 <= size {
-        return size;
-    }
-    size * 10 + byte % 48
+// The size once one more digit is read. It stays below 10 ^ 18, so that nothing is cut.
+fn with_digit(size: usize, digit: u8) -> usize
+    requires { 48 ≤ digit }
+{
+    size.saturating_mul(10).saturating_add(usize::from(digit - b'0'))
 }
 
 // The rest of a size's line, after its first digit.
-fn rest_of_size<R: Read>(input: &mut R, first: usize) -> io::Result<Start>
+fn rest_of_size<R: Read>(input: &mut R, first: u8) -> Result<usize, FrameError>
+    requires { 48 ≤ first }
     ensures { Advances (R.remaining input.old) (R.remaining input.new) }
 {
-    let mut size = first;
-    let mut left: usize = 18;
-    while 0 < left {
-        let byte = next_byte(input)?;
-        if byte == 10 {
-            return Ok(Start::Size(size));
+    let mut size = with_digit(0, first);
+    for _ in 0..18 {
+        match next_byte(input)? {
+            Some(b'\n') => return Ok(size),
+            Some(byte) if byte.is_ascii_digit() && 0 < size => size = with_digit(size, byte),
+            _ => return Err(FrameError::NoSize),
         }
-        if !is_digit(byte) {
-            return Ok(Start::NoSize);
-        }
-        if size == 0 {
-            return Ok(Start::NoSize);
-        }
-        size = with_digit(size, byte);
-        left -= 1;
     }
-    Ok(Start::NoSize)
+    Err(FrameError::NoSize)
 }
 
-fn start_of_frame<R: Read>(input: &mut R) -> io::Result<Start>
+// The size of the next frame; none where the input has ended.
+fn size_of_frame<R: Read>(input: &mut R) -> Result<Option<usize>, FrameError>
     ensures { Advances (R.remaining input.old) (R.remaining input.new) }
 {
-    let byte = next_byte(input)?;
-    if byte == 256 {
-        return Ok(Start::Nothing);
+    let Some(byte) = next_byte(input)? else {
+        return Ok(None);
+    };
+    if !byte.is_ascii_digit() {
+        return Err(FrameError::NoSize);
     }
-    if !is_digit(byte) {
-        return Ok(Start::NoSize);
-    }
-    rest_of_size(input, byte % 48)
-}
-
-fn least(a: usize, b: usize) -> usize
-    ensures upper_bound { result ≤ a }
-    ensures upper_bound_2 { result ≤ b }
-{
-    if a <= b {
-        return a;
-    }
-    b
+    Ok(Some(rest_of_size(input, byte)?))
 }
 
 // Passes over some of so many bytes, and answers how many; 0 where the input has ended.
@@ -135,63 +91,47 @@ fn pass_some<R: Read>(input: &mut R, bytes: usize) -> io::Result<usize>
     ensures advances { Advances (R.remaining input.old) (R.remaining input.new) }
 {
     let mut space = [0u8; 4096];
-    let part: &mut [u8] = &mut space;
-    let n = least(bytes, part.len());
-    read_full(input, &mut part[0..n])
+    let n = bytes.min(space.len());
+    read_full(input, &mut space[..n])
 }
 
-// Passes over so many bytes; false where the input ends before.
-fn pass_over<R: Read>(input: &mut R, bytes: usize) -> io::Result<bool>
+// Passes over so many bytes.
+fn pass_over<R: Read>(input: &mut R, bytes: usize) -> Result<(), FrameError>
     ensures { Advances (R.remaining input.old) (R.remaining input.new) }
 {
     let mut left = bytes;
     while 0 < left {
         let n = pass_some(input, left)?;
         if n == 0 {
-            return Ok(false);
+            return Err(FrameError::Short);
         }
         left -= n;
     }
-    Ok(true)
-}
-
-fn no_frame(came: Came) -> Frame
-    ensures { result.size ≡ 0 }
-{
-    Frame {
-        came: came,
-        size: 0,
-    }
+    Ok(())
 }
 
 // Keeps as many of a frame's bytes as the slice holds, and passes over the rest.
-fn frame_of<R: Read>(input: &mut R, size: usize, space: &mut [u8]) -> io::Result<Frame>
-    ensures room { IfOk result (λ frame. frame.size ≤ length space.old) }
+fn frame_of<R: Read>(input: &mut R, size: usize, space: &mut [u8]) -> Result<usize, FrameError>
+    ensures room { IfOk result (λ kept. kept ≤ length space.old) }
     ensures advances { Advances (R.remaining input.old) (R.remaining input.new) }
 {
-    let kept = least(size, space.len());
-    let got = read_full(input, &mut space[0..kept])?;
+    let kept = size.min(space.len());
+    let got = read_full(input, &mut space[..kept])?;
     if got < kept {
-        return Ok(no_frame(Came::Short));
+        return Err(FrameError::Short);
     }
-    if !pass_over(input, size - kept)? {
-        return Ok(no_frame(Came::Short));
-    }
-    Ok(Frame {
-        came: Came::Whole,
-        size: kept,
-    })
+    pass_over(input, size - kept)?;
+    Ok(kept)
 }
 
-// Reads the next frame into a slice. An error is that of a read. Whatever comes of it, the input has given some bytes and no others.
-pub fn next_frame<R: Read>(input: &mut R, space: &mut [u8]) -> io::Result<Frame>
-    ensures room { IfOk result (λ frame. frame.size ≤ length space.old) }
+// Reads the next frame into a slice, and answers how many of its bytes are kept; none where the input has ended. Whatever comes of it, the
+// input has given some bytes and no others.
+pub fn next_frame<R: Read>(input: &mut R, space: &mut [u8]) -> Result<Option<usize>, FrameError>
+    ensures room { IfOk result (λ frame. IfSome frame (λ kept. kept ≤ length space.old)) }
     ensures advances { Advances (R.remaining input.old) (R.remaining input.new) }
 {
-    let start = start_of_frame(input)?;
-    match start {
-        Start::Nothing => Ok(no_frame(Came::Nothing)),
-        Start::NoSize => Ok(no_frame(Came::NoSize)),
-        Start::Size(size) => frame_of(input, size, space),
+    match size_of_frame(input)? {
+        Some(size) => Ok(Some(frame_of(input, size, space)?)),
+        None => Ok(None),
     }
 }

@@ -2,6 +2,6 @@ pub mod NumberLaws
 pub mod NameLaws
 pub mod WordLaws
 pub mod RowLaws
-pub mod Told
 pub mod InRange
+pub mod Told
 pub mod Refusals

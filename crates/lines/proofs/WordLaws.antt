@@ -2,23 +2,19 @@
 -- kind's word. The inductions are on the bytes.
 use Prim.Native.Nat.{ℕ, zero, suc, ◌+◌}
 use mathlib.Core.Path.{◌≡◌, refl, sym, ap, ◌∙◌}
-use mathlib.Core.Bool.{Bool, true, false, cond, and-eq-true_iff}
+use mathlib.Core.Bool.{Bool, true, false, and-eq-true_iff}
 use mathlib.Core.List.{List, [], ◌∷◌}
 use native.Mathlib.Nat.{zero-add}
 use native.Mathlib.Omega.{arith}
 use lib.Dec.{leb}
 use lib.ListN.{length, drop}
 use borrow.Author.Tests.{leb-true, ne_eqb}
-use Rattle.words.specs.Steps.{is_letter, letters_up_to, letters_of, KindTold}
+use Rattle.words.specs.Steps.{is_letter, letters_up_to, letters_of}
 use Rattle.kinds.specs.Words.{kind_of}
-use Rattle.kinds.specs.declared.Found.{Found}
-use Rattle.kinds.specs.declared.Found.TheVariants.{Unknown}
+use Rattle.std.specs.Prelude.{None}
 use Rattle.words.proofs.Words.{not_whole}
-use Rattle.text.specs.Fields.{is_stop, field_length, field_of, field, stop_at, stands, ends_by}
-use Rattle.text.specs.Steps.{after_byte, next_field}
-use Rattle.text.proofs.Stops.{byte_stands, byte_missing}
-use Rattle.text.proofs.FieldReads.{Reads, rest_stop, here, told_all, told_some}
-use Rattle.lines.specs.Steps.{KindRead}
+use Rattle.text.specs.Fields.{is_stop, field_length, field_of}
+use Rattle.text.proofs.FieldReads.{Reads}
 
 -- a letter ends no field
 inside : (b : ℕ) → is_letter b ≡ true → is_stop 32 b ≡ false
@@ -53,7 +49,7 @@ field_length_lem (b ∷ t) = go (is_stop 32 b) refl (field_length_lem t)
     go false q e = rw q (ap suc e)
 
 -- if they are all of the field, it is the word that they spell; if not, it is no kind's word
-spells : (t : List ℕ) → Reads Unknown 32 t (letters_up_to 12 t) (kind_of (letters_of 12 t)) (kind_of (field_of 32 t))
+pub spells : (t : List ℕ) → Reads None 32 t (letters_up_to 12 t) (kind_of (letters_of 12 t)) (kind_of (field_of 32 t))
 unfolding field_of
 spells t =
     record {
@@ -61,28 +57,3 @@ spells t =
       whole = λ e. rw (← e);
       part = λ n. sym (not_whole (field_of 32 t) (λ e. n (sym (front 12 t).same ∙ e ∙ field_length_lem t)));
     }
-
-space_stop : is_stop 32 32 ≡ true
-unfolding is_stop
-space_stop = refl
-
--- `kind_field` at a place, where they go up to `stop` and have the kind k
-module _ (s : List ℕ) (at : ℕ) (k : Found) (stop : ℕ) (t : KindTold s at k stop) (next : ℕ) (q : next ≡ after_byte 32 s stop) where
-  -- where a space follows them, they are the field
-  pub word_ended : (next ≡ 0 → ⊥) → KindRead s at k next
-  unfolding ends_by next_field
-  word_ended n =
-      let h = byte_stands 32 s stop next q n in
-      let e = here Unknown 32 s at _ _ _ (spells (drop at s)) stop t.past 32 space_stop h in
-      record { word = t.word ∙ rw (← e, h) (sym (told_all Unknown 32 s at _ _ _ (spells (drop at s)) stop t.past 32 space_stop h)); past = q ∙ rw e }
-
-  -- where another byte does, they are not all of it, or no space ends it
-  pub word_far : next ≡ 0 → (far : ℕ) → far ≡ stop_at 32 s stop → (after : ℕ) → after ≡ after_byte 32 s far → KindRead s at Unknown after
-  unfolding ends_by next_field
-  word_far z far f after p = record { word = go (stands 32 s (stop_at 32 s at)) refl; past = p ∙ rw (f ∙ rest_stop Unknown 32 s at _ _ _ (spells (drop at s)) stop t.past) }
-    where
-      go : (r : Bool) → stands 32 s (stop_at 32 s at) ≡ r → Unknown ≡ cond r (kind_of (field 32 s at)) Unknown
-      go true h = sym (told_some Unknown 32 s at _ _ _ (spells (drop at s)) stop t.past 32 (byte_missing 32 s stop next q z) h)
-      go false h = refl
-
-pub ruleset answers = (word_ended, word_far)

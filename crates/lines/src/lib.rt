@@ -3,17 +3,19 @@
 #![tactic(auto)]
 
 ghost use Rattle.std.specs.Prelude.{◌≡◌, ◌<◌, length};
+ghost use Rattle.kinds.specs.Words.{kind_of};
+ghost use Rattle.text.specs.Steps.{field_read};
 ghost use Rattle.lines.specs.Lines.{number_line, jump_mark, name_of, name_line, row_fields, row_line};
-ghost use Rattle.lines.specs.Steps.{KindRead, parts_row, split_row};
+ghost use Rattle.lines.specs.Steps.{parts_row, split_row};
 
-use kinds::Found;
 use refusals::Refusal;
+use text::Field;
 
-// The number on a line, and where the next line starts.
+// What a line holds, and where the next line starts.
 #[derive(Clone, Copy)]
-pub enum NumberLine {
-    Value(usize, usize),
-    Wrong(Refusal),
+pub struct Line<T> {
+    pub value: T,
+    pub next: usize,
 }
 
 // What the name table holds of a name.
@@ -22,13 +24,6 @@ pub struct Name {
     pub offset: usize,
     pub length: usize,
     pub mark: u32,
-}
-
-// The name on a line, and where the next line starts.
-#[derive(Clone, Copy)]
-pub enum NameLine {
-    Read(Name, usize),
-    Wrong(Refusal),
 }
 
 // What the row table holds of a row.
@@ -41,227 +36,145 @@ pub struct Row {
     pub end: u32,
 }
 
-// The row on a line, and where the next line starts.
-#[derive(Clone, Copy)]
-pub enum RowLine {
-    Read(Row, usize),
-    Wrong(Refusal),
-}
-
-// The kind that a field names, and the place after the space that ends it; 0 where no space does.
-#[derive(Clone, Copy)]
-struct KindField {
-    kind: Found,
-    next: usize,
-}
-
-// A row's fields, numbers above 4,294,967,295 where a field spells none, and the place after them.
+// What a row's five fields say, where they say anything, and the place after them.
 #[derive(Clone, Copy)]
 struct Parts {
-    kind: Found,
-    side: u64,
-    lo: u64,
-    hi: u64,
-    end: u64,
+    kind: Option<u32>,
+    side: Option<u32>,
+    lo: Option<u32>,
+    hi: Option<u32>,
+    end: Option<u32>,
     next: usize,
-}
-
-#[derive(Clone, Copy)]
-enum Split {
-    Five(Parts),
-    Uneven,
 }
 
 // The line `key` with a number from low to high.
-pub fn number_line(s: &[u8], at: usize, key: &[u8], low: usize, high: usize) -> NumberLine
+#[tactic(auto, using(crate::proofs::NumberLaws::line_line, crate::proofs::NumberLaws::number_key, crate::proofs::NumberLaws::number_end, crate::proofs::NumberLaws::number_large))]
+pub fn number_line(
+    s: &[u8],
+    at: usize,
+    key: &[u8],
+    low: usize,
+    high: usize,
+) -> Result<Line<usize>, Refusal>
     requires { 0 < length key.now }
     ensures { result ≡ number_line key.now low high s.now at }
 {
-    let from = text::after_key(s, at, key);
-    if from == 0 {
-        return NumberLine::Wrong(Refusal::WrongLine);
+    let from = text::after_key(s, at, key).ok_or(Refusal::WrongLine)?;
+    let read = text::number(s, from, b'\n', b'\n').ok_or(Refusal::WrongLine)?;
+    let value = read.value.ok_or(Refusal::WrongNumber)? as usize;
+    if !(low..=high).contains(&value) {
+        return Err(Refusal::OutOfRange);
     }
-    let read = text::number(s, from, b'\n', b'\n');
-    let next = read.next;
-    if next == 0 {
-        return NumberLine::Wrong(Refusal::WrongLine);
-    }
-    if 4294967295 < read.value {
-        return NumberLine::Wrong(Refusal::WrongNumber);
-    }
-    let value = read.value as usize;
-    if value < low {
-        return NumberLine::Wrong(Refusal::OutOfRange);
-    }
-    if high < value {
-        return NumberLine::Wrong(Refusal::OutOfRange);
-    }
-    NumberLine::Value(value, next)
+    Ok(Line {
+        value,
+        next: read.next,
+    })
 }
 
 // 1 for a name that begins as a loop jump's does.
+#[tactic(auto, using(crate::proofs::NameLaws::mark_break, crate::proofs::NameLaws::mark_other))]
 fn jump_mark(name: &[u8]) -> u32
     ensures { result ≡ jump_mark name.now }
 {
-    if text::after_key(name, 0, b"$break$") != 0 {
-        return 1;
-    }
-    if text::after_key(name, 0, b"$continue$") != 0 {
-        return 1;
-    }
-    0
+    u32::from(name.starts_with(b"$break$") || name.starts_with(b"$continue$"))
 }
 
 // A line's text of bytes from 33 to 126 as a name.
-fn named(name: &[u8], before: &[u8], offset: usize, next: usize) -> NameLine
+#[tactic(auto, using(crate::proofs::NumberLaws::ranged_test, crate::proofs::NameLaws::name_told))]
+fn named(name: &[u8], before: &[u8], offset: usize, next: usize) -> Result<Line<Name>, Refusal>
     ensures { result ≡ name_of before.now name.now offset next }
 {
-    if name.len() < 1 {
-        return NameLine::Wrong(Refusal::WrongName);
-    }
-    if 64 < name.len() {
-        return NameLine::Wrong(Refusal::WrongName);
-    }
-    if !text::is_below(before, name) {
-        return NameLine::Wrong(Refusal::WrongName);
-    }
     let length = name.len();
-    NameLine::Read(
-        Name {
-            offset: offset,
-            length: length,
+    if !(1..=64).contains(&length) || !text::is_below(before, name) {
+        return Err(Refusal::WrongName);
+    }
+    Ok(Line {
+        value: Name {
+            offset,
+            length,
             mark: jump_mark(name),
         },
         next,
-    )
+    })
 }
 
 // The line `name=` with a name that is above the one before it.
-pub fn name_line(s: &[u8], at: usize, before: &[u8]) -> NameLine
+#[tactic(auto, using(text::proofs::FieldLaws::line_from, text::proofs::FieldLaws::line_within, crate::proofs::NameLaws::name_key, crate::proofs::NameLaws::name_end, crate::proofs::NameLaws::name_bytes, crate::proofs::NameLaws::name_is))]
+pub fn name_line(s: &[u8], at: usize, before: &[u8]) -> Result<Line<Name>, Refusal>
     ensures { result ≡ name_line before.now s.now at }
 {
-    let from = text::after_key(s, at, b"name=");
-    if from == 0 {
-        return NameLine::Wrong(Refusal::WrongLine);
-    }
-    let read = text::graphic_line(s, from);
-    let next = read.next;
-    if next == 0 {
-        return NameLine::Wrong(Refusal::WrongLine);
-    }
+    let from = text::after_key(s, at, b"name=").ok_or(Refusal::WrongLine)?;
+    let read = text::graphic_line(s, from).ok_or(Refusal::WrongLine)?;
     if !read.all {
-        return NameLine::Wrong(Refusal::WrongName);
+        return Err(Refusal::WrongName);
     }
-    let stop = read.stop;
-    named(&s[from..stop], before, from, next)
+    named(&s[from..read.stop], before, from, read.next)
 }
 
-// The kind that the field at a place names.
-fn kind_field(s: &[u8], at: usize) -> KindField
-    ensures { KindRead s.now at result.kind result.next }
+// The field at a place, with the kind that it names.
+fn kind_field(s: &[u8], at: usize) -> Option<Field>
+    ensures { result ≡ field_read kind_of 32 32 s.now at }
 {
     let read = words::find_kind_at(s, at);
-    let stop = read.stop;
-    let next = text::after_byte(s, stop, b' ');
-    if next != 0 {
-        let found = read.kind;
-        return KindField {
-            kind: found,
-            next: next,
-        };
+    if let Some(next) = text::after_byte(s, read.stop, b' ') {
+        return Some(Field {
+            value: read.kind,
+            next,
+        });
     }
     // The field has other bytes after these letters, so that it is no kind's word, or no space ends it.
-    let far = text::stop_at(s, stop, b' ');
-    KindField {
-        kind: Found::Unknown,
-        next: text::after_byte(s, far, b' '),
-    }
+    let next = text::after_byte(s, text::stop_at(s, read.stop, b' '), b' ')?;
+    Some(Field { value: None, next })
 }
 
 // The five fields from a place on.
-fn five_fields(s: &[u8], at: usize) -> Split
+#[tactic(auto, using(crate::proofs::NumberLaws::space_space, crate::proofs::NumberLaws::space_line, crate::proofs::RowLaws::uneven_word, crate::proofs::RowLaws::uneven_side, crate::proofs::RowLaws::five))]
+fn five_fields(s: &[u8], at: usize) -> Option<Parts>
     ensures { split_row result ≡ row_fields s.now at }
 {
-    let kind = kind_field(s, at);
-    let side_at = kind.next;
-    if side_at == 0 {
-        return Split::Uneven;
-    }
-    let side = text::number(s, side_at, b' ', b' ');
-    let lo_at = side.next;
-    if lo_at == 0 {
-        return Split::Uneven;
-    }
-    let lo = text::number(s, lo_at, b' ', b' ');
-    let hi_at = lo.next;
-    if hi_at == 0 {
-        return Split::Uneven;
-    }
-    let hi = text::number(s, hi_at, b' ', b' ');
-    let end_at = hi.next;
-    if end_at == 0 {
-        return Split::Uneven;
-    }
-    let end = text::number(s, end_at, b' ', b'\n');
-    let next = end.next;
-    if next == 0 {
-        return Split::Uneven;
-    }
-    let found = kind.kind;
-    Split::Five(Parts {
-        kind: found,
+    let kind = kind_field(s, at)?;
+    let side = text::number(s, kind.next, b' ', b' ')?;
+    let lo = text::number(s, side.next, b' ', b' ')?;
+    let hi = text::number(s, lo.next, b' ', b' ')?;
+    let end = text::number(s, hi.next, b' ', b'\n')?;
+    Some(Parts {
+        kind: kind.value,
         side: side.value,
         lo: lo.value,
         hi: hi.value,
         end: end.value,
-        next: next,
+        next: end.next,
     })
 }
 
 // The row of five fields.
-fn row_of(parts: Parts) -> RowLine
+#[tactic(auto, unfolding(crate::specs::Lines::row_of, crate::specs::Steps::parts_row))]
+fn row_of(parts: Parts) -> Result<Line<Row>, Refusal>
     ensures { result ≡ parts_row parts }
 {
-    if 4294967295 < parts.side {
-        return RowLine::Wrong(Refusal::WrongNumber);
-    }
-    if 4294967295 < parts.lo {
-        return RowLine::Wrong(Refusal::WrongNumber);
-    }
-    if 4294967295 < parts.hi {
-        return RowLine::Wrong(Refusal::WrongNumber);
-    }
-    if 4294967295 < parts.end {
-        return RowLine::Wrong(Refusal::WrongNumber);
-    }
-    let found = parts.kind;
-    let Found::Is(kind) = found else {
-        return RowLine::Wrong(Refusal::UnknownKind);
-    };
-    RowLine::Read(
-        Row {
-            kind: kind,
-            side: parts.side as u32,
-            lo: parts.lo as u32,
-            hi: parts.hi as u32,
-            end: parts.end as u32,
+    let side = parts.side.ok_or(Refusal::WrongNumber)?;
+    let lo = parts.lo.ok_or(Refusal::WrongNumber)?;
+    let hi = parts.hi.ok_or(Refusal::WrongNumber)?;
+    let end = parts.end.ok_or(Refusal::WrongNumber)?;
+    let kind = parts.kind.ok_or(Refusal::UnknownKind)?;
+    Ok(Line {
+        value: Row {
+            kind,
+            side,
+            lo,
+            hi,
+            end,
         },
-        parts.next,
-    )
+        next: parts.next,
+    })
 }
 
 // The line `row=` with a kind's word and four numbers. Whether the kind has the side number is left to the caller, who reads
 // many rows and has the table of kinds laid down once.
-pub fn row_line(s: &[u8], at: usize) -> RowLine
+#[tactic(auto, using(crate::proofs::RowLaws::row_key, crate::proofs::RowLaws::row_uneven, crate::proofs::RowLaws::row_five))]
+pub fn row_line(s: &[u8], at: usize) -> Result<Line<Row>, Refusal>
     ensures { result ≡ row_line s.now at }
 {
-    let from = text::after_key(s, at, b"row=");
-    if from == 0 {
-        return RowLine::Wrong(Refusal::WrongLine);
-    }
-    let parts = five_fields(s, from);
-    let Split::Five(five) = parts else {
-        return RowLine::Wrong(Refusal::WrongLine);
-    };
-    row_of(five)
+    let from = text::after_key(s, at, b"row=").ok_or(Refusal::WrongLine)?;
+    row_of(five_fields(s, from).ok_or(Refusal::WrongLine)?)
 }

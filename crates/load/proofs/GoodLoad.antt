@@ -12,9 +12,7 @@ use borrow.Author.Tests.{leb-true, le-leb, ltb-true, ltb-false, lt-ltb}
 use Rattle.kinds.specs.Kinds.{bytes}
 use Rattle.table.specs.Rows.{tree, Nested}
 use Rattle.table.proofs.Same.{tree_front}
-use Rattle.checks.specs.declared.Checked.{Checked}
-use Rattle.checks.specs.declared.Checked.TheVariants as C
-use Rattle.checks.specs.Checks.{fields_of, ends_of, children_of}
+use Rattle.checks.specs.Checks.{Checked, passed, fields_of, ends_of, children_of}
 use Rattle.checks.proofs.Same.{children_same}
 use Rattle.checks.proofs.Rows.{both_pass}
 use Rattle.checks.proofs.Passed.{children_passed}
@@ -25,9 +23,9 @@ use Rattle.sheet_record.specs.Records.{record_fits, mark_at, text_at}
 use Rattle.sheet.proofs.ReadLaws.{NameEntry, names_length, names_entry, names_ascend, entry_append, text_append}
 use Rattle.refusals.specs.declared.Refusal.{Refusal}
 use Rattle.refusals.specs.declared.Refusal.TheVariants.{TooLong, NoRoom}
-use Rattle.sheet.specs.declared.Loaded.{Loaded}
-use Rattle.sheet.specs.declared.Loaded.TheVariants.{Done, Refused}
-use Rattle.sheet.specs.Load.{Parsed, parsed, wrong, lines_of, Result, refuse, table_of, has_room, after_checks, checked_answer, with_tables, finish_of, after_parse, load_of}
+use Rattle.std.specs.Prelude.{Ok, Err}
+use Rattle.refusals.specs.declared.Refused.{Refused}
+use Rattle.sheet.specs.Load.{Loaded, Parsed, parsed, wrong, lines_of, Loading, refuse, table_of, has_room, after_checks, checked_answer, with_tables, finish_of, after_parse, load_of}
 use Rattle.sheet.specs.Meaning.{Asked, LoadMeans}
 use Rattle.sheet.proofs.Reading.{RecordTold, BeforeParts, before_parts}
 use Rattle.load.proofs.Finishing.{never, answered}
@@ -40,24 +38,24 @@ pub record GoodLoad (s : List ℕ) (row_room name_room : ℕ) (r : Record) : Typ
   pub lines : lines_of s ≡ parsed r name_numbers row_numbers
   pub for_rows : 5 * r.rows ≤ row_room
   pub for_names : 3 * r.names ≤ name_room
-  pub checked : children_of (table_of row_room row_numbers) r.rows ≡ C.Passed
-  pub is : load_of s row_room name_room ≡ record { answer = Done r; rows = table_of row_room row_numbers; names = table_of name_room name_numbers }
+  pub checked : children_of (table_of row_room row_numbers) r.rows ≡ passed
+  pub is : load_of s row_room name_room ≡ record { answer = Ok r; rows = table_of row_room row_numbers; names = table_of name_room name_numbers }
 
-good_checks : (c : Checked) (q r : Record) → after_checks c q ≡ Done r → (c ≡ C.Passed) × (q ≡ r)
-good_checks C.Passed q r e = (refl, cc)
-good_checks (C.Refused refusal row) q r e = never e
+good_checks : (c : Checked) (q r : Record) → after_checks c q ≡ Ok r → (c ≡ passed) × (q ≡ r)
+good_checks (Ok u) q r e = (refl, cc)
+good_checks (Err x) q r e = never e
 
 module _ (s : List ℕ) (row_room name_room : ℕ) (r : Record) where
-  not_done : (f : Refusal) (l : ℕ) → (refuse row_room name_room f l).answer ≡ Done r → GoodLoad s row_room name_room r
+  not_done : (f : Refusal) (l : ℕ) → (refuse row_room name_room f l).answer ≡ Ok r → GoodLoad s row_room name_room r
   unfolding refuse
   not_done f l e = never e
 
-  good_tables : (a : Loaded) (rows names : List ℕ) → (with_tables row_room name_room a rows names).answer ≡ Done r → a ≡ Done r
+  good_tables : (a : Loaded) (rows names : List ℕ) → (with_tables row_room name_room a rows names).answer ≡ Ok r → a ≡ Ok r
   unfolding refuse
-  good_tables (Done q) rows names e = e
-  good_tables (Refused refusal line) rows names e = never e
+  good_tables (Ok q) rows names e = e
+  good_tables (Err x) rows names e = never e
 
-  good_room : (q : Record) (ns rs : List ℕ) → lines_of s ≡ parsed q ns rs → load_of s row_room name_room ≡ finish_of row_room name_room q ns rs → (b : Bool) → has_room row_room name_room q ≡ b → (cond b (with_tables row_room name_room (checked_answer q (table_of row_room rs)) (table_of row_room rs) (table_of name_room ns)) (refuse row_room name_room NoRoom 0)).answer ≡ Done r → GoodLoad s row_room name_room r
+  good_room : (q : Record) (ns rs : List ℕ) → lines_of s ≡ parsed q ns rs → load_of s row_room name_room ≡ finish_of row_room name_room q ns rs → (b : Bool) → has_room row_room name_room q ≡ b → (cond b (with_tables row_room name_room (checked_answer q (table_of row_room rs)) (table_of row_room rs) (table_of name_room ns)) (refuse row_room name_room NoRoom 0)).answer ≡ Ok r → GoodLoad s row_room name_room r
   unfolding has_room checked_answer finish_of
   good_room q ns rs l w true b e =
       let a = good_tables (checked_answer q (table_of row_room rs)) (table_of row_room rs) (table_of name_room ns) e in
@@ -76,17 +74,17 @@ module _ (s : List ℕ) (row_room name_room : ℕ) (r : Record) where
       }
   good_room q ns rs l w false b e = not_done NoRoom 0 e
 
-  good_lines : (p : Parsed) → lines_of s ≡ p → load_of s row_room name_room ≡ after_parse row_room name_room p → (after_parse row_room name_room p).answer ≡ Done r → GoodLoad s row_room name_room r
+  good_lines : (p : Parsed) → lines_of s ≡ p → load_of s row_room name_room ≡ after_parse row_room name_room p → (after_parse row_room name_room p).answer ≡ Ok r → GoodLoad s row_room name_room r
   unfolding finish_of
   good_lines (parsed q ns rs) l w e = good_room q ns rs l w (has_room row_room name_room q) refl e
   good_lines (wrong refusal line) l w e = not_done refusal line e
 
-  good_length : (b : Bool) → leb (length s) 65536 ≡ b → (cond b (after_parse row_room name_room (lines_of s)) (refuse row_room name_room TooLong 0)).answer ≡ Done r → GoodLoad s row_room name_room r
+  good_length : (b : Bool) → leb (length s) 65536 ≡ b → (cond b (after_parse row_room name_room (lines_of s)) (refuse row_room name_room TooLong 0)).answer ≡ Ok r → GoodLoad s row_room name_room r
   unfolding load_of
   good_length true b e = good_lines (lines_of s) refl (rw b) e
   good_length false b e = not_done TooLong 0 e
 
-  pub good_load : (load_of s row_room name_room).answer ≡ Done r → GoodLoad s row_room name_room r
+  pub good_load : (load_of s row_room name_room).answer ≡ Ok r → GoodLoad s row_room name_room r
   unfolding load_of
   good_load e = good_length (leb (length s) 65536) refl e
 
@@ -154,7 +152,7 @@ module _ (s : List ℕ) (row_room name_room : ℕ) (r : Record) (g : GoodLoad s 
   ranges : RecordTold r
   ranges = record_told s r g.name_numbers g.row_numbers g.lines
 
-  fields : fields_of (table_of row_room g.row_numbers) r.rows r.names ≡ C.Passed
+  fields : fields_of (table_of row_room g.row_numbers) r.rows r.names ≡ passed
   unfolding table_of
   fields =
       lines_fields s r g.name_numbers g.row_numbers g.lines (table_of row_room g.row_numbers) (omega (arith, rows_wide, g.for_rows)) front
@@ -199,22 +197,22 @@ module _ (s : List ℕ) (row_room name_room : ℕ) (r : Record) (g : GoodLoad s 
       (names_ascend s r.names [] parts.names_at 3 g.name_numbers parts.facts_at parts.names i h)
 
   nested : Nested (table_of row_room g.row_numbers) 0 r.rows
-  nested = (children_passed (table_of row_room g.row_numbers) r.rows C.Passed (sym g.checked) refl).ends.nested
+  nested = (children_passed (table_of row_room g.row_numbers) r.rows passed (sym g.checked) refl).ends.nested
 
   same_tree : tree (table_of row_room g.row_numbers) 0 r.rows ≡ tree g.row_numbers 0 r.rows
   unfolding table_of
   same_tree = tree_front g.row_numbers (replicate (row_room - length g.row_numbers) 0) 0 r.rows (omega (arith, rows_counted)) nested
 
 -- the laws of a good load
-module _ (s : List ℕ) (row_room name_room : ℕ) (r : Record) (e : (load_of s row_room name_room).answer ≡ Done r) where
+module _ (s : List ℕ) (row_room name_room : ℕ) (r : Record) (e : (load_of s row_room name_room).answer ≡ Ok r) where
   good : GoodLoad s row_room name_room r
   good = good_load s row_room name_room r e
 
   row_table : (load_of s row_room name_room).rows ≡ table_of row_room good.row_numbers
-  row_table = ap (λ (x : Result). x.rows) good.is
+  row_table = ap (λ (x : Loading). x.rows) good.is
 
   name_table : (load_of s row_room name_room).names ≡ table_of name_room good.name_numbers
-  name_table = ap (λ (x : Result). x.names) good.is
+  name_table = ap (λ (x : Loading). x.names) good.is
 
   -- it passes every check that asking makes
   pub load_asked : Asked r (load_of s row_room name_room).rows (load_of s row_room name_room).names
@@ -277,13 +275,13 @@ pub load_means : (s : List ℕ) (row_room name_room : ℕ) (a : Loaded) (rows na
 unfolding refuse
 load_means s row_room name_room a rows names p q t =
     record {
-      zero_rows = λ refusal line e. zeros row_room rows (q ∙ ap (λ (x : Result). x.rows) (whole refusal line e));
-      zero_names = λ refusal line e. zeros name_room names (t ∙ ap (λ (x : Result). x.names) (whole refusal line e));
+      zero_rows = λ x e. zeros row_room rows (q ∙ ap (λ (y : Loading). y.rows) (whole x e));
+      zero_names = λ x e. zeros name_room names (t ∙ ap (λ (y : Loading). y.names) (whole x e));
       good = λ r e. rw (q, t) (load_asked s row_room name_room r (sym p ∙ e));
     }
   where
-    whole : (refusal : Refusal) (line : ℕ) → a ≡ Refused refusal line → load_of s row_room name_room ≡ refuse row_room name_room refusal line
-    whole refusal line e = refused_load row_room name_room refusal line s (sym p ∙ e)
+    whole : (x : Refused) → a ≡ Err x → load_of s row_room name_room ≡ refuse row_room name_room x.refusal x.place
+    whole x e = refused_load row_room name_room x s (sym p ∙ e)
 
     zeros : (n : ℕ) (l : List ℕ) → l ≡ replicate n 0 → l ≡ replicate (length l) 0
     zeros n l e = let k : length l ≡ n = ap length e ∙ length-replicate {A = ℕ} n 0 in e ∙ ap (λ (m : ℕ). replicate m 0) (sym k)

@@ -1,4 +1,3 @@
-pub mod Zeros
 pub mod Finishing
 pub mod Loading
 pub mod GoodLoad

@@ -12,20 +12,20 @@ use borrow.Author.Tests.{le-leb, lt-leb, leb-true, ltb-false}
 use Rattle.refusals.specs.declared.Refusal.{Refusal}
 use Rattle.refusals.specs.declared.Refusal.TheVariants.{WrongLine, TooLong, NoRoom}
 use Rattle.table.specs.Rows.{kind_at}
-use Rattle.checks.specs.declared.Checked.TheVariants as C
-use Rattle.checks.specs.Checks.{fields_of}
+use Rattle.checks.specs.Checks.{passed, fields_of}
 use Rattle.checks.proofs.Passed.{fields_pass}
 use Rattle.sheet.specs.Header.{first_row}
 use Rattle.sheet.specs.Sections.{Lines, read, refused, after_lines, rows_from}
 use Rattle.sheet_record.specs.declared.Record.{Record}
-use Rattle.sheet.specs.declared.Loaded.{Loaded}
-use Rattle.sheet.specs.declared.Loaded.TheVariants.{Done, Refused}
-use Rattle.sheet.specs.Load.{Before, before, stopped, before_rows, Parsed, parsed, wrong, after_before, line_of, lines_of, Result, refuse, table_of, has_room, checked_answer, with_tables, finish_of, after_parse, load_of}
-use Rattle.sheet.specs.Steps.{Short, answer_of, BothFilled, FieldsRead, GoodFilled, finish_fronts, is_refused}
+use Rattle.std.specs.Prelude.{Ok, Err, is_err}
+use Rattle.refusals.specs.declared.Refused.{Refused}
+use Rattle.refusals.specs.Refusals.{refused_at}
+use Rattle.sheet.specs.Load.{Loaded, Before, before, stopped, before_rows, Parsed, parsed, wrong, after_before, line_of, lines_of, Loading, refuse, table_of, has_room, checked_answer, with_tables, finish_of, after_parse, load_of}
+use Rattle.sheet.specs.Steps.{answer_of, BothFilled, FieldsRead, GoodFilled, finish_fronts}
 use Rattle.sheet.proofs.NumberLines.{FactsTold}
 use Rattle.sheet.proofs.Reading.{RecordTold, before_told}
 use Rattle.sheet.proofs.ReadLaws.{rows_length, rows_kind, rows_side}
-use Rattle.load.proofs.Finishing.{never, refused_filled}
+use Rattle.load.proofs.Finishing.{never}
 
 apart : {A : Type 0} → ◌≡◌ {A = ℕ} 0 1 → A
 apart z = absurd (omega (arith, z))
@@ -75,7 +75,7 @@ module _ (s : List ℕ) (r : Record) (names rows : List ℕ) (l : lines_of s ≡
   pub row_count : length rows ≡ 5 * r.rows
   row_count = rows_length r.names s r.rows tt lines.rows_at (first_row r.names) rows lines.end lines.last
 
-  pub lines_fields : (table : List ℕ) → 5 * r.rows ≤ length table → take (5 * r.rows) table ≡ rows → fields_of table r.rows r.names ≡ C.Passed
+  pub lines_fields : (table : List ℕ) → 5 * r.rows ≤ length table → take (5 * r.rows) table ≡ rows → fields_of table r.rows r.names ≡ passed
   lines_fields table h e =
       fields_pass table r.rows r.names
       (record {
@@ -94,34 +94,28 @@ module _ (s : List ℕ) (r : Record) (names rows : List ℕ) (l : lines_of s ≡
       kind i k = same (5 * i) (omega arith)
 
 -- an answer of all lines
-parsed_read : (p : Parsed) (r : Record) → Done r ≡ answer_of p → (names : List ℕ) × ((rows : List ℕ) × (p ≡ parsed r names rows))
+parsed_read : (p : Parsed) (r : Record) → Ok r ≡ answer_of p → (names : List ℕ) × ((rows : List ℕ) × (p ≡ parsed r names rows))
 parsed_read (parsed q names rows) r e = let x : q ≡ r = cc in (names, (rows, rw x))
 parsed_read (wrong refusal line) r e = apart (cc)
 
-refused_read : (row_room name_room : ℕ) (p : Parsed) (refusal : Refusal) (line : ℕ) → Refused refusal line ≡ answer_of p → Refused refusal line ≡ (after_parse row_room name_room p).answer
+refused_read : (row_room name_room : ℕ) (p : Parsed) (x : Refused) → Err x ≡ answer_of p → Err x ≡ (after_parse row_room name_room p).answer
 unfolding refuse
-refused_read row_room name_room (parsed q names rows) refusal line e = apart (cc)
-refused_read row_room name_room (wrong f l) refusal line e = e
-
-pub is_short : (s : List ℕ) → length s ≤ 65536 → Short s
-is_short s h = record { bytes = h }
+refused_read row_room name_room (parsed q names rows) x e = apart (cc)
+refused_read row_room name_room (wrong f l) x e = e
 
 module _ (s : List ℕ) (row_room name_room : ℕ) where
   -- 10
-  pub load_long : 65536 < length s → Refused TooLong 0 ≡ (load_of s row_room name_room).answer
+  pub load_long : 65536 < length s → refused_at TooLong 0 ≡ (load_of s row_room name_room).answer
   unfolding load_of refuse
   load_long h = rw (lt-leb (length s) 65536 h)
 
   module _ (h : length s ≤ 65536) (a : Loaded) (q : a ≡ answer_of (lines_of s)) where
     -- 1 to 6
-    pub load_lines : (refusal : Refusal) (line : ℕ) → a ≡ Refused refusal line → a ≡ (load_of s row_room name_room).answer
+    pub load_lines : (x : Refused) → a ≡ Err x → Err x ≡ (load_of s row_room name_room).answer
     unfolding load_of
-    load_lines refusal line e = rw (le-leb (length s) 65536 h) (e ∙ refused_read row_room name_room (lines_of s) refusal line (sym e ∙ q))
+    load_lines x e = rw (le-leb (length s) 65536 h) (refused_read row_room name_room (lines_of s) x (sym e ∙ q))
 
-    pub lines_filled : (refusal : Refusal) (line : ℕ) → a ≡ Refused refusal line → (result : Result) (rows names : List ℕ) → GoodFilled a result rows names
-    lines_filled refusal line e result rows names = rw e (refused_filled refusal line result rows names)
-
-    module _ (r : Record) (e : a ≡ Done r) where
+    module _ (r : Record) (e : a ≡ Ok r) where
       told : (names : List ℕ) × ((rows : List ℕ) × (lines_of s ≡ parsed r names rows))
       told = parsed_read (lines_of s) r (sym e ∙ q)
 
@@ -150,59 +144,59 @@ module _ (s : List ℕ) (row_room name_room : ℕ) where
         whole = rw (le-leb (length s) 65536 h, i, j, told.1.1) (fronts (has_room row_room name_room r) refl)
 
         pub load_answer : (f : Loaded) → f ≡ (finish_fronts r rows names).answer → f ≡ (load_of s row_room name_room).answer
-        load_answer f p = p ∙ ap (λ (x : Result). x.answer) whole
+        load_answer f p = p ∙ ap (λ (x : Loading). x.answer) whole
 
         pub load_filled : (f : Loaded) (new_rows new_names : List ℕ) → GoodFilled f (finish_fronts r rows names) new_rows new_names → GoodFilled f (load_of s row_room name_room) new_rows new_names
-        load_filled f new_rows new_names g = record { row_table = λ x p. g.row_table x p ∙ ap (λ (z : Result). z.rows) whole; name_table = λ x p. g.name_table x p ∙ ap (λ (z : Result). z.names) whole }
+        load_filled f new_rows new_names g = record { row_table = λ x p. g.row_table x p ∙ ap (λ (z : Loading). z.rows) whole; name_table = λ x p. g.name_table x p ∙ ap (λ (z : Loading). z.names) whole }
 
 -- a refused load leaves zeros in both tables, whatever it was refused for
-module _ (row_room name_room : ℕ) (refusal : Refusal) (line : ℕ) where
-  by_refusal : (f : Refusal) (l : ℕ) → (refuse row_room name_room f l).answer ≡ Refused refusal line → refuse row_room name_room f l ≡ refuse row_room name_room refusal line
+module _ (row_room name_room : ℕ) (x : Refused) where
+  by_refusal : (f : Refusal) (l : ℕ) → (refuse row_room name_room f l).answer ≡ Err x → refuse row_room name_room f l ≡ refuse row_room name_room x.refusal x.place
   unfolding refuse
-  by_refusal f l e = let x : f ≡ refusal = cc in let y : l ≡ line = cc in rw (x, y)
+  by_refusal f l e = let z : x ≡ record { refusal = f; place = l } = cc in rw z
 
-  by_checks : (a : Loaded) (rows names : List ℕ) → (with_tables row_room name_room a rows names).answer ≡ Refused refusal line → with_tables row_room name_room a rows names ≡ refuse row_room name_room refusal line
-  by_checks (Done r) rows names e = never (sym e)
-  by_checks (Refused f l) rows names e = by_refusal f l e
+  by_checks : (a : Loaded) (rows names : List ℕ) → (with_tables row_room name_room a rows names).answer ≡ Err x → with_tables row_room name_room a rows names ≡ refuse row_room name_room x.refusal x.place
+  by_checks (Ok r) rows names e = never (sym e)
+  by_checks (Err f) rows names e = by_refusal f.refusal f.place e
 
-  by_room : (b : Bool) (a : Loaded) (rows names : List ℕ) → (cond b (with_tables row_room name_room a rows names) (refuse row_room name_room NoRoom 0)).answer ≡ Refused refusal line → cond b (with_tables row_room name_room a rows names) (refuse row_room name_room NoRoom 0) ≡ refuse row_room name_room refusal line
+  by_room : (b : Bool) (a : Loaded) (rows names : List ℕ) → (cond b (with_tables row_room name_room a rows names) (refuse row_room name_room NoRoom 0)).answer ≡ Err x → cond b (with_tables row_room name_room a rows names) (refuse row_room name_room NoRoom 0) ≡ refuse row_room name_room x.refusal x.place
   by_room true a rows names e = by_checks a rows names e
   by_room false a rows names e = by_refusal NoRoom 0 e
 
-  by_lines : (p : Parsed) → (after_parse row_room name_room p).answer ≡ Refused refusal line → after_parse row_room name_room p ≡ refuse row_room name_room refusal line
+  by_lines : (p : Parsed) → (after_parse row_room name_room p).answer ≡ Err x → after_parse row_room name_room p ≡ refuse row_room name_room x.refusal x.place
   unfolding finish_of
   by_lines (parsed r names rows) e = by_room (has_room row_room name_room r) (checked_answer r (table_of row_room rows)) (table_of row_room rows) (table_of name_room names) e
-  by_lines (wrong refusal l) e = by_refusal refusal l e
+  by_lines (wrong f l) e = by_refusal f l e
 
-  by_length : (b : Bool) (p : Parsed) → (cond b (after_parse row_room name_room p) (refuse row_room name_room TooLong 0)).answer ≡ Refused refusal line → cond b (after_parse row_room name_room p) (refuse row_room name_room TooLong 0) ≡ refuse row_room name_room refusal line
+  by_length : (b : Bool) (p : Parsed) → (cond b (after_parse row_room name_room p) (refuse row_room name_room TooLong 0)).answer ≡ Err x → cond b (after_parse row_room name_room p) (refuse row_room name_room TooLong 0) ≡ refuse row_room name_room x.refusal x.place
   by_length true p e = by_lines p e
   by_length false p e = by_refusal TooLong 0 e
 
-  pub refused_load : (s : List ℕ) → (load_of s row_room name_room).answer ≡ Refused refusal line → load_of s row_room name_room ≡ refuse row_room name_room refusal line
+  pub refused_load : (s : List ℕ) → (load_of s row_room name_room).answer ≡ Err x → load_of s row_room name_room ≡ refuse row_room name_room x.refusal x.place
   unfolding load_of
   refused_load s e = by_length (leb (length s) 65536) (lines_of s) e
 
 -- the two tables of a load, as the code leaves them
-refused_told : (a : Loaded) → is_refused a ≡ true → (refusal : Refusal) × ((line : ℕ) × (a ≡ Refused refusal line))
-refused_told (Done r) e = absurd (true≢false (sym e))
-refused_told (Refused refusal line) e = (refusal, (line, refl))
+refused_told : (a : Loaded) → is_err a ≡ true → (x : Refused) × (a ≡ Err x)
+refused_told (Ok r) e = absurd (true≢false (sym e))
+refused_told (Err x) e = (x, refl)
 
-done_told : (a : Loaded) → is_refused a ≡ false → (r : Record) × (a ≡ Done r)
-done_told (Done r) e = (r, refl)
-done_told (Refused refusal line) e = absurd (true≢false e)
+done_told : (a : Loaded) → is_err a ≡ false → (r : Record) × (a ≡ Ok r)
+done_told (Ok r) e = (r, refl)
+done_told (Err x) e = absurd (true≢false e)
 
-module _ (s : List ℕ) (row_room name_room : ℕ) (a : Loaded) (q : a ≡ (load_of s row_room name_room).answer) (b : Bool) (p : b ≡ is_refused a) where
+module _ (s : List ℕ) (row_room name_room : ℕ) (a : Loaded) (q : a ≡ (load_of s row_room name_room).answer) (b : Bool) (p : b ≡ is_err a) where
   module _ (e : b ≡ true) where
-    whole_refused : (refusal : Refusal) × ((line : ℕ) × (load_of s row_room name_room ≡ refuse row_room name_room refusal line))
-    whole_refused = let t = refused_told a (sym p ∙ e) in (t.0, (t.1.0, refused_load row_room name_room t.0 t.1.0 s (sym q ∙ t.1.1)))
+    whole_refused : (x : Refused) × (load_of s row_room name_room ≡ refuse row_room name_room x.refusal x.place)
+    whole_refused = let t = refused_told a (sym p ∙ e) in (t.0, refused_load row_room name_room t.0 s (sym q ∙ t.1))
 
     pub zero_rows : (rows old : List ℕ) → rows ≡ replicate (length old) 0 → length old ≡ row_room → rows ≡ (load_of s row_room name_room).rows
     unfolding refuse
-    zero_rows rows old z k = z ∙ ap (λ (n : ℕ). replicate n 0) k ∙ sym (ap (λ (x : Result). x.rows) whole_refused.1.1)
+    zero_rows rows old z k = z ∙ ap (λ (n : ℕ). replicate n 0) k ∙ sym (ap (λ (x : Loading). x.rows) whole_refused.1)
 
     pub zero_names : (names old : List ℕ) → names ≡ replicate (length old) 0 → length old ≡ name_room → names ≡ (load_of s row_room name_room).names
     unfolding refuse
-    zero_names names old z k = z ∙ ap (λ (n : ℕ). replicate n 0) k ∙ sym (ap (λ (x : Result). x.names) whole_refused.1.1)
+    zero_names names old z k = z ∙ ap (λ (n : ℕ). replicate n 0) k ∙ sym (ap (λ (x : Loading). x.names) whole_refused.1)
 
   module _ (e : b ≡ false) (rows names : List ℕ) (g : GoodFilled a (load_of s row_room name_room) rows names) where
     pub good_rows : rows ≡ (load_of s row_room name_room).rows
@@ -210,5 +204,3 @@ module _ (s : List ℕ) (row_room name_room : ℕ) (a : Loaded) (q : a ≡ (load
 
     pub good_names : names ≡ (load_of s row_room name_room).names
     good_names = let t = done_told a (sym p ∙ e) in g.name_table t.0 t.1
-
-pub ruleset answers = (is_short, load_long, load_lines, lines_filled, load_rows, load_names, fields_read, load_answer, load_filled, zero_rows, zero_names, good_rows, good_names, refused_filled)

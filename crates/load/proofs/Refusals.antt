@@ -8,21 +8,18 @@ use native.Mathlib.Omega.{arith}
 use lib.Dec.{leb}
 use lib.ListN.{length}
 use borrow.Author.Tests.{leb-true, leb-false}
-use Rattle.checks.specs.declared.Checked.{Checked}
-use Rattle.checks.specs.declared.Checked.TheVariants as C
 use Rattle.checks.specs.Steps.{Held}
-use Rattle.checks.specs.Checks.{children_of}
+use Rattle.checks.specs.Checks.{Checked, children_of}
 use Rattle.checks.proofs.Places.{children_place}
 use Rattle.sheet_record.specs.declared.Record.{Record}
 use Rattle.sheet.specs.Meaning.{LoadNumbers, loaded, of_line, too_long, no_room}
 use Rattle.sheet.proofs.Reading.{RecordTold}
 use Rattle.sheet.proofs.Refusals.{lines_of_refused}
 use Rattle.refusals.specs.declared.Refusal.TheVariants.{TooLong, NoRoom}
-use Rattle.sheet.specs.declared.Loaded.{Loaded}
-use Rattle.sheet.specs.declared.Loaded.TheVariants.{Done, Refused}
+use Rattle.std.specs.Prelude.{Ok, Err}
 use Rattle.refusals.specs.Refusals.{refusal_number}
 use Rattle.refusals.proofs.Distinct.{number_some}
-use Rattle.sheet.specs.Load.{refusal_of, place_of, Parsed, parsed, wrong, lines_of, refuse, table_of, has_room, after_checks, checked_answer, with_tables, finish_of, after_parse, load_of}
+use Rattle.sheet.specs.Load.{Loaded, refusal_of, place_of, Parsed, parsed, wrong, lines_of, refuse, table_of, has_room, after_checks, checked_answer, with_tables, finish_of, after_parse, load_of}
 use Rattle.load.proofs.Finishing.{answered}
 use Rattle.load.proofs.Loading.{record_told, row_count}
 use Rattle.load.proofs.GoodLoad.{table_length}
@@ -41,12 +38,12 @@ data OfLoad (row_room name_room number place : ℕ) : Type 0 where
 module _ (s : List ℕ) (row_room name_room : ℕ) where
   -- an answer whose refusal, if it has one, is such
   abbrev OfInput : Loaded → Type 0
-  OfInput (Done r) = Unit
-  OfInput (Refused refusal line) = OfLoad row_room name_room (refusal_number refusal) line
+  OfInput (Ok r) = Unit
+  OfInput (Err x) = OfLoad row_room name_room (refusal_number x.refusal) x.place
 
   checks_number : (c : Checked) (r : Record) (table : List ℕ) → Held table r.rows → children_of table r.rows ≡ c → OfInput (after_checks c r)
-  checks_number C.Passed r table h e = tt
-  checks_number (C.Refused refusal row) r table h e = at_line (number_some refusal) (omega (arith, (children_place table r.rows h).number refusal row e)) (omega arith)
+  checks_number (Ok u) r table h e = tt
+  checks_number (Err x) r table h e = at_line (number_some x.refusal) (omega (arith, (children_place table r.rows h).number x.refusal x.place e)) (omega arith)
 
   with_tables_lem : (a : Loaded) (rows names : List ℕ) → OfInput a → OfInput (with_tables row_room name_room a rows names).answer
   with_tables_lem a rows names h = rw (answered row_room name_room a rows names) h
@@ -100,14 +97,14 @@ module _ (s : List ℕ) (row_room name_room : ℕ) where
   load_numbers a e = go a (rw e load_input)
     where
       go : (a : Loaded) → OfInput a → LoadNumbers (refusal_of a) (place_of a)
-      go (Done r) h = loaded refl refl
-      go (Refused refusal line) h = numbers_told (refusal_number refusal) line h
+      go (Ok r) h = loaded refl refl
+      go (Err x) h = numbers_told (refusal_number x.refusal) x.place h
 
   short_told : (a : Loaded) → OfInput a → refusal_of a ≡ 21 → TooShort row_room name_room
-  short_told (Done r) h e = absurd (omega (arith, e))
-  short_told (Refused refusal line) (at_line a b c) e = absurd (omega (arith, b, e))
-  short_told (Refused refusal line) (of_size a b) e = absurd (omega (arith, a, e))
-  short_told (Refused refusal line) (of_room a b short) e = short
+  short_told (Ok r) h e = absurd (omega (arith, e))
+  short_told (Err x) (at_line a b c) e = absurd (omega (arith, b, e))
+  short_told (Err x) (of_size a b) e = absurd (omega (arith, a, e))
+  short_told (Err x) (of_room a b short) e = short
 
   -- 21 is the tables' fault: they are too short for some sheet
   pub no_room_short : refusal_of (load_of s row_room name_room).answer ≡ 21 → TooShort row_room name_room

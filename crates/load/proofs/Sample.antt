@@ -13,7 +13,7 @@ use Rattle.text.specs.Fields.{is_stop, field_length, field_of, stop_at, stands, 
 use Rattle.text.specs.Numbers.{is_digit, all_digits, is_empty, zero_first, decimal, bounded, number_of}
 use Rattle.lines.specs.Lines.{keyed, number_line, jump_mark, name_of, name_line, five_fields, row_of, row_from, row_fields, row_line, row_at}
 use Rattle.sheet.specs.Sections.{lines_from, number_step, name_step, row_step}
-use Rattle.sheet.specs.declared.Loaded.TheVariants.{Done}
+use Rattle.std.specs.Prelude.{Ok}
 use Rattle.sheet.specs.Load.{refusal_of, place_of, before_rows, lines_of, refuse, table_of, has_room, checked_answer, finish_of, load_of}
 
 -- a line, ended by byte 10
@@ -31,7 +31,7 @@ listing =
 -- the listing fills the front of both tables
 pub listing_loads : load_of listing 46 7
     ≡ record {
-      answer = Done (record { names = 2; rows = 9; local = 0; start = 0; sole = 1 });
+      answer = Ok (record { names = 2; rows = 9; local = 0; start = 0; sole = 1 });
       rows =
           11 ∷ 0 ∷ 0 ∷ 6 ∷ 9 ∷ 0 ∷ 0 ∷ 0 ∷ 0 ∷ 2 ∷ 0 ∷ 0 ∷ 0 ∷ 0 ∷ 3 ∷ 60 ∷ 0 ∷ 0 ∷ 1 ∷ 6 ∷ 1 ∷ 0 ∷ 0 ∷ 1 ∷ 6 ∷ 2 ∷ 1 ∷ 0 ∷ 1 ∷ 6 ∷ 41 ∷ 0 ∷ 4 ∷ 5 ∷ 9 ∷ 1 ∷ 0 ∷ 4 ∷ 5 ∷ 9 ∷ 2 ∷ 0 ∷ 4 ∷ 5 ∷ 9 ∷ 0 ∷ [];
       names = 21 ∷ 1 ∷ 0 ∷ 28 ∷ 1 ∷ 0 ∷ 0 ∷ [];

@@ -2,43 +2,26 @@
 #![tactic(auto)]
 
 ghost use Rattle.std.specs.Prelude.{◌≡◌, ◌++◌, ◌-◌, ◌≤◌, length, take, replicate};
-ghost use Rattle.checks.specs.declared.Checked.TheVariants.{Passed};
-ghost use Rattle.checks.specs.Checks.{fields_of};
-ghost use Rattle.sheet.specs.Load.{refusal_of, place_of, checked_answer, load_of};
-ghost use Rattle.sheet.specs.Steps.{Room, FieldsRead, GoodFilled, finish_fronts, is_refused};
+ghost use Rattle.checks.specs.Checks.{passed, fields_of};
+ghost use Rattle.sheet.specs.Load.{refusal_of, place_of, has_room, checked_answer, load_of};
+ghost use Rattle.sheet.specs.Steps.{Room, FieldsRead, GoodFilled, finish_fronts};
 ghost use Rattle.sheet.specs.Meaning.{LoadNumbers, LoadMeans};
 
-use checks::Checked;
-use refusals::Refusal;
+use refusals::{Refusal, Refused};
 use sheet::Loaded;
 use sheet_record::Record;
 
-fn clear(t: &mut [u32])
-    ensures { t.new ≡ replicate (length t.old) 0 }
-{
-    let mut i = 0;
-    while i < t.len() {
-        t[i] = 0;
-        i += 1;
-    }
-}
-
-fn clear_from(t: &mut [u32], at: usize)
-    requires { at ≤ length t.old }
-    ensures { t.new ≡ take at t.old ++ replicate (length t.old - at) 0 }
-{
-    clear(&mut t[at..]);
-}
-
 // The check of the rows: refusals 7 to 9. Kinds and side numbers pass, since the lines have passed.
 fn checked_answer(record: Record, rows: &[u32]) -> Loaded
-    requires { («record».names ≤ 500) × (fields_of rows.now «record».rows «record».names ≡ Passed) }
+    requires { («record».names ≤ 500) × (fields_of rows.now «record».rows «record».names ≡ passed) }
     ensures { result ≡ checked_answer «record» rows.now }
 {
-    let checked = checks::check(rows, record.rows, record.names);
-    match checked {
-        Checked::Passed => Loaded::Done(record),
-        Checked::Refused(refusal, row) => Loaded::Refused(refusal, sheet::line_of(record, row)),
+    match checks::check(rows, record.rows, record.names) {
+        Ok(()) => Ok(record),
+        Err(refused) => Err(Refused {
+            refusal: refused.refusal,
+            place: sheet::line_of(record, refused.place),
+        }),
     }
 }
 
@@ -49,9 +32,18 @@ fn clear_and_check(record: Record, rows: &mut [u32], names: &mut [u32]) -> Loade
     ensures value { result ≡ (finish_fronts «record» rows.old names.old).answer }
     ensures filled { GoodFilled result (finish_fronts «record» rows.old names.old) rows.new names.new }
 {
-    clear_from(rows, 5 * record.rows);
-    clear_from(names, 3 * record.names);
+    rows[5 * record.rows..].fill(0);
+    names[3 * record.names..].fill(0);
     checked_answer(record, rows)
+}
+
+// Whether tables of these lengths have room for a record's rows and names.
+#[tactic(auto, unfolding(sheet::specs::Load::has_room))]
+fn has_room(record: Record, rows: usize, names: usize) -> bool
+    requires { («record».rows ≤ 2000) × («record».names ≤ 500) }
+    ensures { result ≡ has_room rows names «record» }
+{
+    5 * record.rows <= rows && 3 * record.names <= names
 }
 
 // What follows good lines: 21, then what follows where there is room.
@@ -61,11 +53,11 @@ fn finish(record: Record, rows: &mut [u32], names: &mut [u32]) -> Loaded
     ensures value { result ≡ (finish_fronts «record» rows.old names.old).answer }
     ensures filled { GoodFilled result (finish_fronts «record» rows.old names.old) rows.new names.new }
 {
-    if rows.len() < 5 * record.rows {
-        return Loaded::Refused(Refusal::NoRoom, 0);
-    }
-    if names.len() < 3 * record.names {
-        return Loaded::Refused(Refusal::NoRoom, 0);
+    if !has_room(record, rows.len(), names.len()) {
+        return Err(Refused {
+            refusal: Refusal::NoRoom,
+            place: 0,
+        });
     }
     clear_and_check(record, rows, names)
 }
@@ -76,37 +68,13 @@ fn fill(s: &[u8], rows: &mut [u32], names: &mut [u32]) -> Loaded
     ensures filled { GoodFilled result (load_of s.now (length rows.old) (length names.old)) rows.new names.new }
 {
     if 65536 < s.len() {
-        return Loaded::Refused(Refusal::TooLong, 0);
+        return Err(Refused {
+            refusal: Refusal::TooLong,
+            place: 0,
+        });
     }
-    let read = sheet::read_lines(s, rows, names);
-    let Loaded::Done(record) = read else {
-        return read;
-    };
+    let record = sheet::read_lines(s, rows, names)?;
     finish(record, rows, names)
-}
-
-fn is_refused(loaded: Loaded) -> bool
-    ensures { result ≡ is_refused loaded }
-{
-    match loaded {
-        Loaded::Done(record) => false,
-        Loaded::Refused(refusal, line) => true,
-    }
-}
-
-// The whole of loading.
-fn load_tables(sheet: &[u8], rows: &mut [u32], names: &mut [u32]) -> Loaded
-    ensures value { result ≡ (load_of sheet.now (length rows.old) (length names.old)).answer }
-    ensures row_table { rows.new ≡ (load_of sheet.now (length rows.old) (length names.old)).rows }
-    ensures name_table { names.new ≡ (load_of sheet.now (length rows.old) (length names.old)).names }
-{
-    let loaded = fill(sheet, rows, names);
-    if is_refused(loaded) {
-        clear(rows);
-        clear(names);
-        return loaded;
-    }
-    loaded
 }
 
 // Loads a sheet. A refusal leaves zeros in both tables, and so does a good load after the part that it fills.
@@ -117,5 +85,10 @@ pub fn load(sheet: &[u8], rows: &mut [u32], names: &mut [u32]) -> Loaded
     ensures numbers { LoadNumbers (refusal_of result) (place_of result) }
     ensures means { LoadMeans result rows.new names.new }
 {
-    load_tables(sheet, rows, names)
+    let loaded = fill(sheet, rows, names);
+    if loaded.is_err() {
+        rows.fill(0);
+        names.fill(0);
+    }
+    loaded
 }

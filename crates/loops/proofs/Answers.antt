@@ -1,88 +1,48 @@
 -- What the functions answer, from what stands in the code where they return; the loops go from row to row, by the steps of Gather. What
 -- the yes of `stmt_cannot_escape` means, and the arms of the Rust, are cited. Nothing recurses here.
-use Prim.Native.Nat.{ℕ, ◌+◌, ◌≤◌, ◌<◌}
+use Prim.Native.Nat.{ℕ, ◌+◌, ◌-◌, ◌<◌, ◌≤◌}
 use mathlib.Core.Path.{◌≡◌, refl, sym, ap, ◌∙◌}
 use mathlib.Core.Bool.{Bool, true, false, ◌&&◌, ◌||◌, not}
-use mathlib.Core.List.{List, [], ◌∷◌}
+use mathlib.Core.List.{List}
 use native.Mathlib.Omega.{arith}
 use lib.Dec.{eqb, leb}
-use borrow.Author.Tests.{le-leb, lt-leb, ne_eqb, eqb-true}
-use denote.Enum.Declared.{tag_of}
-use types.Run.{OneOf}
+use Rattle.table.proofs.Ranges.{later}
+use borrow.Author.Tests.{le-leb, lt-leb, eqb-true}
 use Rattle.table.specs.Rows.{kind_at, side_at, end_at, tree, Nested}
 use Rattle.table.specs.Fold.{Alg, fold, nth}
 use Rattle.table.proofs.Fold.{fold_none, fold_some, fold_step}
-use Rattle.table.proofs.Ranges.{later}
-use Rattle.kinds.specs.declared.StmtClass.{StmtClass}
 use Rattle.kinds.specs.Kinds.{kinds, S, entry, class_number, of_class, is_kind, in_class}
 use Rattle.kinds.specs.Words.{same, place_from, kind_of}
 use Rattle.kinds.specs.Named.{kind_number, numbered, stmt_class}
 use Rattle.kinds.proofs.Below.{both_true}
-use Rattle.kinds.specs.contracts.StmtClass.{the_type}
-use Rattle.kinds.proofs.Classes.{last_arm}
 use Rattle.checks.specs.Checks.{kind_alone}
 use Rattle.loops.specs.Escape.{transfers, cannot_escape_at, cannot_escape, stmt_cannot_escape, EscapeTold}
 use Rattle.loops.specs.Time.{waiting_words, is_one_of, lets_time_pass, advances_at, advances_time, stmt_advances_time, TimeTold}
-use Rattle.loops.proofs.Gather.{Gather, by_and, by_or, flat_none, flat_step}
+use Rattle.loops.proofs.Gather.{Gather, by_and, by_or, flat_numbers, flat_none, flat_step}
+use Rattle.std.specs.List.{range_with_len, list_any}
 use Rattle.loops.proofs.Places.{class_of, Told, Rows, no_further_row, row}
 use Rattle.loops.proofs.Staying.{never_jumps, stay_first}
 use Rattle.loops.proofs.EscapeArms.{arms_escape}
 use Rattle.loops.proofs.TimeArms.{fair, arms_time}
 
--- transfers_control: the tags of the classes that transfer none, after the first
-abbrev other_tags : List ℕ
-other_tags = 1 ∷ 2 ∷ 3 ∷ 4 ∷ 5 ∷ 6 ∷ 8 ∷ 9 ∷ 10 ∷ 11 ∷ 12 ∷ 13 ∷ 14 ∷ 15 ∷ 16 ∷ 17 ∷ 18 ∷ 19 ∷ 21 ∷ 22 ∷ 23 ∷ []
-
-module _ (rows : List ℕ) (i n : ℕ) (c : StmtClass) (p : n ≡ kind_at rows i) (q : c ≡ stmt_class n) where
-  pub transfers_named : (class : StmtClass) (r : Bool) → c ≡ class → r ≡ transfers class → r ≡ transfers (stmt_class (kind_at rows i))
-  transfers_named class r e v = rw (← p, ← q, e) v
-
-  pub transfers_other : OneOf (0 ∷ other_tags) (tag_of the_type c) → false ≡ transfers (stmt_class (kind_at rows i))
-  transfers_other o = rw (← p, ← q) (sym (last_arm transfers false 0 other_tags c refl o))
-
-pub ruleset transfers_answers = (transfers_named, transfers_other)
-
 -- lets_time_pass, by the words' numbers
 abbrev by_number : ℕ → ℕ → Bool
 by_number k s = (eqb k 3 || (eqb k 4 || (eqb k 25 || (eqb k 26 || (eqb k 28 || (eqb k 30 || false)))))) || (eqb k 23 && leb 4 s)
 
-time_numbers : (k s : ℕ) → lets_time_pass k s ≡ by_number k s
+pub time_numbers : (k s : ℕ) → lets_time_pass k s ≡ by_number k s
 unfolding lets_time_pass is_one_of waiting_words numbered kind_number kind_of place_from kinds same
 time_numbers k s = refl
 
-module _ (rows : List ℕ) (i k : ℕ) (p : k ≡ kind_at rows i) where
-  pub waits_named : (n : ℕ) (r : Bool) → k ≡ n → r ≡ by_number n (side_at rows i) → r ≡ lets_time_pass (kind_at rows i) (side_at rows i)
-  waits_named n r e v = rw (← p, time_numbers k (side_at rows i), e) v
-
-  pub task_waits : (s : ℕ) → k ≡ 23 → s ≡ side_at rows i → leb 4 s ≡ lets_time_pass (kind_at rows i) (side_at rows i)
-  task_waits s e v = waits_named 23 (leb 4 s) e (rw v)
-
-  pub waits_other : (k ≡ 3 → ⊥)
-      → (k ≡ 4 → ⊥)
-      → (k ≡ 23 → ⊥)
-      → (k ≡ 25 → ⊥)
-      → (k ≡ 26 → ⊥)
-      → (k ≡ 28 → ⊥)
-      → (k ≡ 30 → ⊥)
-      → false ≡ lets_time_pass (kind_at rows i) (side_at rows i)
-  waits_other n3 n4 n23 n25 n26 n28 n30 = rw (← p, time_numbers k (side_at rows i)) (simp ne_eqb)
-
-pub ruleset time_answers = (waits_named, task_waits, waits_other)
-
--- the rows after row i
-pub next_nested : {rows : List ℕ} {i to : ℕ} → Nested rows i to → i < to → Nested rows (i + 1) to
-next_nested {i = i} g h = later g (i + 1) (omega arith) (omega arith)
-
--- the loops: what they keep is that the answer is that of the rows from i on
-module _ (rows : List ℕ) (from to i : ℕ) (v : cannot_escape (tree rows from to) ≡ cannot_escape (tree rows i to)) where
-  pub escape_done : to ≤ i → leb to i ≡ cannot_escape (tree rows from to)
+-- first_transfer: what its loop keeps is that the answer is that of the rows from i on
+module _ (rows : List ℕ) (from to i : ℕ) (g : Nested rows from to) (v : cannot_escape (tree rows from to) ≡ cannot_escape (tree rows i to)) where
+  pub escape_done : to ≤ i → leb to to ≡ cannot_escape (tree rows from to)
   unfolding cannot_escape cannot_escape_at
-  escape_done h = le-leb to i h ∙ sym (v ∙ flat_none by_and (λ k s cs. not (transfers (stmt_class k))) rows i to h)
+  escape_done h = le-leb to to (omega arith) ∙ sym (v ∙ flat_none by_and (λ k s cs. not (transfers (stmt_class k))) rows i to h)
 
-  module _ (g : Nested rows i to) (h : i < to) (b : Bool) (e : b ≡ transfers (stmt_class (kind_at rows i))) where
+  module _ (h : i < to) (l : from ≤ i) (b : Bool) (e : b ≡ transfers (stmt_class (kind_at rows i))) where
     escape_row : cannot_escape (tree rows from to) ≡ not b && cannot_escape (tree rows (i + 1) to)
     unfolding cannot_escape cannot_escape_at
-    escape_row = v ∙ rw e (flat_step by_and (λ k s cs. not (transfers (stmt_class k))) g h)
+    escape_row = v ∙ rw e (flat_step by_and (λ k s cs. not (transfers (stmt_class k))) (later g i l (omega arith)) h)
 
     pub escape_hit : b ≡ true → leb to i ≡ cannot_escape (tree rows from to)
     escape_hit y = lt-leb to i h ∙ sym (escape_row ∙ rw y)
@@ -90,25 +50,15 @@ module _ (rows : List ℕ) (from to i : ℕ) (v : cannot_escape (tree rows from 
     pub escape_miss : b ≡ false → cannot_escape (tree rows from to) ≡ cannot_escape (tree rows (i + 1) to)
     escape_miss y = escape_row ∙ rw y
 
-module _ (rows : List ℕ) (from to i : ℕ) (v : advances_time (tree rows from to) ≡ advances_time (tree rows i to)) where
-  pub time_done : to ≤ i → false ≡ advances_time (tree rows from to)
-  unfolding advances_time advances_at
-  time_done h = sym (v ∙ flat_none by_or (λ k s cs. lets_time_pass k s) rows i to h)
+pub ruleset scan_answers = (escape_done, escape_hit, escape_miss)
 
-  module _ (g : Nested rows i to) (h : i < to) (b : Bool) (e : b ≡ lets_time_pass (kind_at rows i) (side_at rows i)) where
-    row_time : advances_time (tree rows from to) ≡ b || advances_time (tree rows (i + 1) to)
-    unfolding advances_time advances_at
-    row_time = v ∙ rw e (flat_step by_or (λ k s cs. lets_time_pass k s) g h)
-
-    pub time_hit : b ≡ true → true ≡ advances_time (tree rows from to)
-    time_hit y = sym (row_time ∙ rw y)
-
-    pub time_miss : b ≡ false → advances_time (tree rows from to) ≡ advances_time (tree rows (i + 1) to)
-    time_miss y = row_time ∙ rw y
-
-pub ruleset scan_answers = (escape_done, escape_hit, time_done, time_hit)
-
-pub ruleset scan_misses = (escape_miss, time_miss)
+-- the pass of stmt_advances_time
+pub time_any : {rows : List ℕ} {from to : ℕ} {r : Bool}
+    → Nested rows from to
+    → r ≡ list_any (λ i. lets_time_pass (kind_at rows i) (side_at rows i)) (range_with_len from (to - from))
+    → r ≡ advances_time (tree rows from to)
+unfolding advances_time advances_at
+time_any {rows} {from} {to} g e = e ∙ flat_numbers by_or (λ k s cs. lets_time_pass k s) (list_any (λ i. lets_time_pass (kind_at rows i) (side_at rows i))) refl (λ i is. refl) (to - from) refl g
 
 -- a row alone: the answers of the range are the row's
 module _ {rows : List ℕ} {from to : ℕ} (g : Nested rows from to) (h : from < to) (e : to ≡ end_at rows from) where
@@ -126,14 +76,14 @@ first_same : {unit : Bool} {quiet fair : ℕ → Bool} {ks : List ℕ} {bs ds : 
 first_same no_further_row e = refl
 first_same (row w ws) e = w.same e
 
--- both clauses of the contracts
+-- what the answers mean
 pub escape_told : {rows : List ℕ} {from to : ℕ} {r : Bool}
     → Nested rows from to
     → r ≡ cannot_escape (tree rows from to)
-    → (r ≡ cannot_escape (tree rows from to)) × EscapeTold rows from to r
+    → EscapeTold rows from to r
 unfolding cannot_escape stmt_cannot_escape
 escape_told {rows} {from} {to} g q =
-    (q, record { stays = λ y sem x marks t o. never_jumps t o (stay_first sem x marks (tree rows from to) (sym q ∙ y)); arms = λ f h e. q ∙ alone_is g h e by_and cannot_escape_at ∙ ap (nth true 0) (arms_escape (tree rows from to) f) })
+    record { stays = λ y sem x marks t o. never_jumps t o (stay_first sem x marks (tree rows from to) (sym q ∙ y)); arms = λ f h e. q ∙ alone_is g h e by_and cannot_escape_at ∙ ap (nth true 0) (arms_escape (tree rows from to) f) }
 
 stmt_fair : (k : ℕ) → in_class S k ≡ true → fair (class_of k) ≡ true
 unfolding in_class of_class class_number
@@ -142,14 +92,11 @@ stmt_fair k e = rw (eqb-true (class_of k) 9 (both_true (is_kind k) (of_class S (
 pub time_told : {rows : List ℕ} {from to : ℕ} {r : Bool}
     → Nested rows from to
     → r ≡ advances_time (tree rows from to)
-    → (r ≡ advances_time (tree rows from to)) × TimeTold rows from to r
+    → TimeTold rows from to r
 unfolding advances_time stmt_advances_time kind_alone
-time_told {rows} {from} {to} g q = (
-  q,
-  record {
-    arms = λ f h e s.
-        q
-        ∙ alone_is g h e by_or advances_at
-        ∙ first_same (arms_time (tree rows from to) f) (rw (fold_some kind_alone g h) (stmt_fair (kind_at rows from) s));
-  },
-)
+time_told {rows} {from} {to} g q = record {
+  arms = λ f h e s.
+      q
+      ∙ alone_is g h e by_or advances_at
+      ∙ first_same (arms_time (tree rows from to) f) (rw (fold_some kind_alone g h) (stmt_fair (kind_at rows from) s));
+}

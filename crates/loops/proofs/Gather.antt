@@ -3,10 +3,13 @@
 use mathlib.Core.Path.{◌≡◌, refl, sym, ap, ◌∙◌}
 use mathlib.Core.Bool.{Bool, true, false, ◌&&◌, ◌||◌, and-true, or-false, and_assoc, or_assoc}
 use mathlib.Core.List.{List, [], ◌∷◌, ◌++◌}
-use Prim.Native.Nat.{ℕ, ◌+◌, ◌≤◌, ◌<◌}
+use Prim.Native.Nat.{ℕ, zero, suc, ◌+◌, ◌-◌, ◌≤◌, ◌<◌}
+use native.Mathlib.Omega.{arith}
+use Rattle.std.specs.List.{range_with_len}
 use Rattle.table.specs.Rows.{kind_at, side_at, end_at, Forest, tree, Nested}
 use Rattle.table.specs.Fold.{Alg, fold}
 use Rattle.table.proofs.Fold.{fold_none, fold_some, fold_after}
+use Rattle.table.proofs.Ranges.{later}
 use Rattle.reads.specs.Iffs.{every}
 use Rattle.reads.specs.Mentions.{some}
 
@@ -72,3 +75,17 @@ module _ (g : Gather) where
         ∙ g.more (g.op own (g.all below)) after
         ∙ g.assoc own (g.all below) (g.all after)
         ∙ ap (g.op own) (sym (ap g.all (fold_after alg n h) ∙ all_append below after))
+
+    -- of all rows, by any way to gather a test of the rows' numbers
+    pub flat_numbers : {rows : List ℕ} (of : List ℕ → Bool)
+        → of [] ≡ g.unit
+        → ((i : ℕ) (is : List ℕ) → of (i ∷ is) ≡ g.op (here (kind_at rows i) (side_at rows i) (tree rows (i + 1) (end_at rows i))) (of is))
+        → (n : ℕ) {from to : ℕ}
+        → to - from ≡ n
+        → Nested rows from to
+        → of (range_with_len from n) ≡ g.all (fold (gathered here) (tree rows from to))
+    flat_numbers {rows} of none more zero {from} {to} e h = none ∙ sym (flat_none rows from to (omega arith))
+    flat_numbers {rows} of none more (suc n) {from} {to} e h =
+        more from (range_with_len (from + 1) n)
+        ∙ ap (g.op _) (flat_numbers of none more n (omega arith) (later h (from + 1) (omega arith) (omega arith)))
+        ∙ sym (flat_step h (omega arith))

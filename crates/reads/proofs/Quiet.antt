@@ -4,6 +4,7 @@ use Prim.Native.Nat.{ℕ, zero, suc, ◌+◌, ◌-◌, ◌≤◌, ◌<◌}
 use mathlib.Core.Path.{◌≡◌, refl, sym, ap, ◌∙◌}
 use mathlib.Core.Bool.{Bool, true, false, not}
 use mathlib.Core.List.{List}
+use mathlib.Core.Logic.{◌⊎◌, inl, inr}
 use native.Mathlib.Omega.{arith}
 use lib.Dec.{ltb, eqb}
 use borrow.Author.Rules.{rules}
@@ -15,7 +16,6 @@ use Rattle.kinds.specs.declared.ExprClass.{ExprClass}
 use Rattle.kinds.specs.declared.ExprClass.TheVariants.{Ident, Call, Lident}
 use Rattle.kinds.specs.Named.{expr_class}
 use Rattle.kinds.proofs.Named.{ident_is, call_is, lident_is, unary_is, binary_is, ternary_is, paren_is, other_is}
-use Rattle.kinds.proofs.Below.{true_not_false}
 use Rattle.reads.specs.declared.Role.TheVariants.{ByPath, ByContent}
 use Rattle.reads.specs.declared.Iff.{Iff}
 use Rattle.reads.specs.declared.Iff.TheVariants.{Skipped, Included}
@@ -23,10 +23,6 @@ use Rattle.reads.specs.PathRows.{is_named, begins}
 use Rattle.reads.specs.Mentions.{role_of, mentions_by, has_iff, skips_iff, refers, mention_in}
 use Rattle.reads.specs.Steps.{Quiet, AllQuiet, AfterQuiet}
 use Rattle.reads.proofs.Scan.{mention_none, mention_row, nowhere_refers, next_nested}
-
--- names_other
-pub other_name : (x : ℕ) (rows : List ℕ) (i to s : ℕ) → s ≡ side_at rows i → not (eqb s x) ≡ true → i < to → side_at rows i ≡ x → ⊥
-other_name x rows i to s v e l = rw v at (eqb-false s x (not-true (eqb s x) e))
 
 -- a path that begins with the local has its first segment two rows after the row that has the path
 segment_other : (x : ℕ) {rows : List ℕ} {from to : ℕ} → Nested rows from to → (b : Bool) → ltb from to ≡ b → (from < to → side_at rows from ≡ x → ⊥) → is_named x (tree rows from to) ≡ false
@@ -62,16 +58,13 @@ module _ (x : ℕ) (rows : List ℕ) (i : ℕ) where
     unwriting = λ c s. let z : ◌≡◌ {A = ℕ} 0 1 = cc (ap role_of c) in absurd (omega arith);
   }
 
-  pub quiet_no : false ≡ true → Quiet x rows i
-  quiet_no e = true_not_false (sym e)
-
   module _ (k : ℕ) (e : k ≡ kind_at rows i) where
     pub quiet_before : k < 41 → not (eqb k 7) ≡ true → Quiet x rows i
     quiet_before h n =
         by_content (ap (λ j. role_of (expr_class j)) (sym e) ∙ content k (eqb-false k 7 (not-true (eqb k 7) n)) (λ q. omega arith) (λ q. omega arith) (λ q. omega arith) (λ q. omega arith))
 
-    pub quiet_after : 41 ≤ k → (k ≡ 41 → ⊥) → (k ≡ 54 → ⊥) → (k ≡ 59 → ⊥) → (k ≡ 60 → ⊥) → true ≡ true → Quiet x rows i
-    quiet_after h ident call opaque lident t = by_content (ap (λ j. role_of (expr_class j)) (sym e) ∙ content k (λ q. omega arith) ident call opaque lident)
+    pub quiet_after : 41 ≤ k → ((k ≡ 41) ⊎ (k ≡ 60) → ⊥) → (k ≡ 54 → ⊥) → (k ≡ 59 → ⊥) → true ≡ true → Quiet x rows i
+    quiet_after h path call opaque t = by_content (ap (λ j. role_of (expr_class j)) (sym e) ∙ content k (λ q. omega arith) (λ q. path (inl q)) call opaque (λ q. path (inr q)))
 
   module _ (to : ℕ) (b : Bool) (g : Nested rows i to) (h : i < to) (n : b ≡ true → i + 2 < to → side_at rows (i + 2) ≡ x → ⊥) where
     by_path : (c : ExprClass) → c ≡ expr_class (kind_at rows i) → role_of c ≡ ByPath → (c ≡ Call → side_at rows i ≡ 1 → ⊥) → b ≡ true → Quiet x rows i
@@ -84,16 +77,14 @@ module _ (x : ℕ) (rows : List ℕ) (i : ℕ) where
           unwriting = λ q. w (e ∙ q);
         }
 
-    pub quiet_ident : (k : ℕ) → k ≡ kind_at rows i → k ≡ 41 → b ≡ true → Quiet x rows i
-    quiet_ident k e v = by_path Ident (rw (← e) (ident_is k v)) refl (λ c s. let z : ◌≡◌ {A = ℕ} 0 1 = cc in absurd (omega arith))
-
-    pub quiet_lident : (k : ℕ) → k ≡ kind_at rows i → k ≡ 60 → b ≡ true → Quiet x rows i
-    quiet_lident k e v = by_path Lident (rw (← e) (lident_is k v)) refl (λ c s. let z : ◌≡◌ {A = ℕ} 0 1 = cc in absurd (omega arith))
+    pub quiet_path : (k : ℕ) → k ≡ kind_at rows i → (k ≡ 41) ⊎ (k ≡ 60) → b ≡ true → Quiet x rows i
+    quiet_path k e (inl v) = by_path Ident (rw (← e) (ident_is k v)) refl (λ c s. let z : ◌≡◌ {A = ℕ} 0 1 = cc in absurd (omega arith))
+    quiet_path k e (inr v) = by_path Lident (rw (← e) (lident_is k v)) refl (λ c s. let z : ◌≡◌ {A = ℕ} 0 1 = cc in absurd (omega arith))
 
     pub quiet_call : (s : ℕ) → kind_at rows i ≡ 54 → s ≡ side_at rows i → (s ≡ 1 → ⊥) → b ≡ true → Quiet x rows i
     quiet_call s e v n = by_path Call (call_is (kind_at rows i) e) refl (λ c w. n (v ∙ w))
 
-pub ruleset quiet_answers = (quiet_no, quiet_before, quiet_after, quiet_ident, quiet_lident, quiet_call)
+pub ruleset quiet_answers = (quiet_before, quiet_after, quiet_path, quiet_call)
 
 -- after_quiet: its loop
 pub quiet_start : (x : ℕ) (rows : List ℕ) (i to : ℕ) → Nested rows i to → AfterQuiet x rows i to i

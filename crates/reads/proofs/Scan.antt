@@ -19,18 +19,17 @@ use Rattle.kinds.specs.declared.ExprClass.{ExprClass}
 use Rattle.kinds.specs.Named.{expr_class}
 use Rattle.kinds.proofs.Below.{true_not_false}
 use Rattle.reads.specs.declared.Iff.{Iff}
-use Rattle.reads.specs.declared.Mention.{Mention}
-use Rattle.reads.specs.declared.Mention.TheVariants.{At, Nowhere}
+use Rattle.std.specs.Prelude.{Option, None, Some}
 use Rattle.reads.specs.Mentions.{mentions_at, in_row_order, passed_over, skips_iff, without_iff, seen_below, seen_at, seen, some, refers, first_true, mention_in, MentionAt, MentionTold}
 
 -- the first answer, or where it is nowhere the second
-abbrev pub or_else : Mention → Mention → Mention
-or_else (At r) m = At r
-or_else Nowhere m = m
+abbrev pub or_else : Option ℕ → Option ℕ → Option ℕ
+or_else (Some r) m = Some r
+or_else None m = m
 
-else_nowhere : (m : Mention) → or_else m Nowhere ≡ m
-else_nowhere (At r) = refl
-else_nowhere Nowhere = refl
+else_nowhere : (m : Option ℕ) → or_else m None ≡ m
+else_nowhere (Some r) = refl
+else_nowhere None = refl
 
 -- lists of what is seen
 first_append : (i : ℕ) (a b : List Bool) → first_true i (a ++ b) ≡ or_else (first_true i a) (first_true (i + length a) b)
@@ -41,7 +40,7 @@ first_append i (false ∷ ms) b =
     let e : i + 1 + length ms ≡ i + suc (length ms) = omega arith in
     rw (← e) (first_append (i + 1) ms b)
 
-first_passed_over : (i : ℕ) (a : List Bool) → first_true i (passed_over a) ≡ Nowhere
+first_passed_over : (i : ℕ) (a : List Bool) → first_true i (passed_over a) ≡ None
 unfolding first_true passed_over
 first_passed_over i [] = refl
 first_passed_over i (m ∷ ms) = first_passed_over (i + 1) ms
@@ -142,13 +141,13 @@ module _ (iff : Iff) (x : ℕ) where
   seen_length {from = from} {to = to} g = length_by (to - from) (omega arith) g
 
   -- an empty range
-  pub mention_none : (rows : List ℕ) (from to : ℕ) → to ≤ from → mention_in iff x rows from to ≡ Nowhere
+  pub mention_none : (rows : List ℕ) (from to : ℕ) → to ≤ from → mention_in iff x rows from to ≡ None
   unfolding mention_in first_true
   mention_none rows from to h = rw (seen_none rows from to h)
 
   module _ {rows : List ℕ} {from to : ℕ} (g : Nested rows from to) (h : from < to) where
     -- a mention
-    pub mention_here : mentions_at x rows from ≡ true → mention_in iff x rows from to ≡ At from
+    pub mention_here : mentions_at x rows from ≡ true → mention_in iff x rows from to ≡ Some from
     unfolding mention_in first_true
     mention_here m = rw (seen_some g h, m)
 
@@ -170,9 +169,9 @@ module _ (iff : Iff) (x : ℕ) where
           ∙ rw (m, p, event_first (from + 1) (end_at rows from) ms (seen iff x (tree rows (end_at rows from) to)) l, seen_first (children g h) q)
 
 -- a first mention is found exactly where the reference test says true
-abbrev is_at : Mention → Bool
-is_at (At r) = true
-is_at Nowhere = false
+abbrev is_at : Option ℕ → Bool
+is_at (Some r) = true
+is_at None = false
 
 first_some : (i : ℕ) (ms : List Bool) → is_at (first_true i ms) ≡ some ms
 unfolding first_true some
@@ -180,28 +179,28 @@ first_some i [] = refl
 first_some i (true ∷ ms) = refl
 first_some i (false ∷ ms) = first_some (i + 1) ms
 
-not_at : (m : Mention) → is_at m ≡ false → m ≡ Nowhere
-not_at (At r) e = true_not_false e
-not_at Nowhere e = refl
+not_at : (m : Option ℕ) → is_at m ≡ false → m ≡ None
+not_at (Some r) e = true_not_false e
+not_at None e = refl
 
 module _ (iff : Iff) (x : ℕ) (rows : List ℕ) (from to : ℕ) where
   at_refers : is_at (mention_in iff x rows from to) ≡ refers iff x (tree rows from to)
   unfolding mention_in refers
   at_refers = first_some from (seen iff x (tree rows from to))
 
-  pub found_refers : (r : ℕ) → mention_in iff x rows from to ≡ At r → refers iff x (tree rows from to) ≡ true
+  pub found_refers : (r : ℕ) → mention_in iff x rows from to ≡ Some r → refers iff x (tree rows from to) ≡ true
   found_refers r e = sym at_refers ∙ rw e
 
-  pub nowhere_refers : mention_in iff x rows from to ≡ Nowhere → refers iff x (tree rows from to) ≡ false
+  pub nowhere_refers : mention_in iff x rows from to ≡ None → refers iff x (tree rows from to) ≡ false
   nowhere_refers e = sym at_refers ∙ rw e
 
-  pub refers_nowhere : refers iff x (tree rows from to) ≡ false → mention_in iff x rows from to ≡ Nowhere
+  pub refers_nowhere : refers iff x (tree rows from to) ≡ false → mention_in iff x rows from to ≡ None
   refers_nowhere e = not_at (mention_in iff x rows from to) (at_refers ∙ e)
 
 -- the answer's row is a mention
-else_place : (a b : Mention) (r : ℕ) → or_else a b ≡ At r → (a ≡ At r) ⊎ (b ≡ At r)
-else_place (At s) b r e = inl e
-else_place Nowhere b r e = inr e
+else_place : (a b : Option ℕ) (r : ℕ) → or_else a b ≡ Some r → (a ≡ Some r) ⊎ (b ≡ Some r)
+else_place (Some s) b r e = inl e
+else_place None b r e = inr e
 
 wider : {x : ℕ} {rows : List ℕ} {a b r : ℕ} (from to : ℕ) → MentionAt x rows a b r → from ≤ a → b ≤ to → MentionAt x rows from to r
 wider from to m p q = record { after = omega arith; within = omega arith; is = m.is }
@@ -219,12 +218,12 @@ next_told {rows} {from} {to} g = go (ltb from to) refl
 
 -- the answer, where it is a row's number, is that of a mention
 abbrev Placed : Iff → ℕ → List ℕ → ℕ → ℕ → Type 0
-Placed iff x rows from to = (r : ℕ) → mention_in iff x rows from to ≡ At r → MentionAt x rows from to r
+Placed iff x rows from to = (r : ℕ) → mention_in iff x rows from to ≡ Some r → MentionAt x rows from to r
 
 module _ (iff : Iff) (x : ℕ) {rows : List ℕ} {from to : ℕ} (g : Nested rows from to) where
   place_none : to ≤ from → Placed iff x rows from to
   place_none h r e =
-      let v : mention_in iff x rows from to ≡ Nowhere = mention_none iff x rows from to h in
+      let v : mention_in iff x rows from to ≡ None = mention_none iff x rows from to h in
       let z : ◌≡◌ {A = ℕ} 0 1 = cc in
       absurd (omega arith)
 
@@ -256,7 +255,7 @@ place_by (suc n) iff x {rows} {from} {to} b g = go (ltb from to) refl (λ c d p 
     go false q ih = place_none iff x g (ltb-false from to q)
 
 -- in the list, the answer's row says true, and none before it does
-first_true_lem : (i r : ℕ) (ms : List Bool) → first_true i ms ≡ At r → (i ≤ r) × (nth false (r - i) ms ≡ true)
+first_true_lem : (i r : ℕ) (ms : List Bool) → first_true i ms ≡ Some r → (i ≤ r) × (nth false (r - i) ms ≡ true)
 unfolding first_true
 first_true_lem i r [] e = let z : ◌≡◌ {A = ℕ} 0 1 = cc in absurd (omega arith)
 first_true_lem i r (true ∷ ms) e =
@@ -267,7 +266,7 @@ first_true_lem i r (false ∷ ms) e =
     let v : r - i ≡ suc (r - (i + 1)) = omega (arith, h.0) in
     (omega (arith, h.0), rw v h.1)
 
-first_before : (i r j : ℕ) (ms : List Bool) → first_true i ms ≡ At r → i ≤ j → j < r → nth false (j - i) ms ≡ false
+first_before : (i r j : ℕ) (ms : List Bool) → first_true i ms ≡ Some r → i ≤ j → j < r → nth false (j - i) ms ≡ false
 unfolding first_true
 first_before i r j [] e a b = let z : ◌≡◌ {A = ℕ} 0 1 = cc in absurd (omega arith)
 first_before i r j (true ∷ ms) e a b = let v : i ≡ r = cc in absurd (omega arith)
@@ -284,7 +283,7 @@ first_before i r j (false ∷ ms) e a b = go (ltb i j) refl (λ l. first_before 
         rw v
 
 -- what the equation of `first_mention` means
-pub mention_told : {iff : Iff} {x : ℕ} {rows : List ℕ} {from to : ℕ} {m : Mention} → Nested rows from to → m ≡ mention_in iff x rows from to → MentionTold iff x rows from to m
+pub mention_told : {iff : Iff} {x : ℕ} {rows : List ℕ} {from to : ℕ} {m : Option ℕ} → Nested rows from to → m ≡ mention_in iff x rows from to → MentionTold iff x rows from to m
 unfolding mention_in
 mention_told {iff} {x} {rows} {from} {to} g e = record {
   place = λ r p. place_by (to - from) iff x (omega arith) g r (sym e ∙ p);

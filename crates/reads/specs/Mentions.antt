@@ -1,6 +1,6 @@
 -- The reference test: document 01, "How a path runs", "to refer is to be or hold an ident, call or lident whose path begins
 -- with the local, or an opaque row", and da/reads.rs, which never looks at an event's iff. Definitions only.
-use Rattle.std.specs.Prelude.{ℕ, ◌+◌, ◌-◌, ◌≤◌, ◌<◌, ◌≡◌, Bool, true, false, cond, ◌||◌, List, [], ◌∷◌, ◌++◌}
+use Rattle.std.specs.Prelude.{ℕ, ◌+◌, ◌-◌, ◌≤◌, ◌<◌, ◌≡◌, Bool, true, false, cond, ◌||◌, List, [], ◌∷◌, ◌++◌, Option, None, Some}
 use Rattle.table.specs.Rows.{kind_at, end_at, Forest, tree}
 use Rattle.table.specs.Fold.{Alg, fold, nth, tail}
 use Rattle.kinds.specs.declared.ExprClass.{ExprClass}
@@ -11,8 +11,6 @@ use Rattle.reads.specs.declared.Role.{Role}
 use Rattle.reads.specs.declared.Role.TheVariants.{ByPath, Always, HasIff, ByContent}
 use Rattle.reads.specs.declared.Iff.{Iff}
 use Rattle.reads.specs.declared.Iff.TheVariants.{Skipped, Included}
-use Rattle.reads.specs.declared.Mention.{Mention}
-use Rattle.reads.specs.declared.Mention.TheVariants.{At, Nowhere}
 
 -- "an ident, call or lident whose path begins with the local, or an opaque row", by the class of a row; an event has an iff;
 -- every other row refers by what it holds alone
@@ -91,12 +89,12 @@ unfoldable pub refers : Iff → ℕ → Forest → Bool
 refers iff x f = some (seen iff x f)
 
 -- the first row of which the list says true, where the list's first row has number i
-unfoldable pub first_true : ℕ → List Bool → Mention
-first_true i [] = Nowhere
-first_true i (b ∷ bs) = cond b (At i) (first_true (i + 1) bs)
+unfoldable pub first_true : ℕ → List Bool → Option ℕ
+first_true i [] = None
+first_true i (b ∷ bs) = cond b (Some i) (first_true (i + 1) bs)
 
 -- the first row, in row order, that is a mention and is looked at, of the rows from `from` up to `to` (document 02, Paper 4)
-unfoldable pub mention_in : Iff → ℕ → List ℕ → ℕ → ℕ → Mention
+unfoldable pub mention_in : Iff → ℕ → List ℕ → ℕ → ℕ → Option ℕ
 mention_in iff x rows from to = first_true from (seen iff x (tree rows from to))
 
 -- row r, of the rows from `from` up to `to`, is itself a mention
@@ -107,9 +105,9 @@ pub record MentionAt (x : ℕ) (rows : List ℕ) (from to r : ℕ) : Type 0 wher
 
 -- what an answer of `first_mention` means: a row that is a mention and is looked at, none of the rows before it being so, and
 -- one of the siblings refers; or none does
-pub record MentionTold (iff : Iff) (x : ℕ) (rows : List ℕ) (from to : ℕ) (m : Mention) : Type 0 where
-  pub place : (r : ℕ) → m ≡ At r → MentionAt x rows from to r
-  pub looked_at : (r : ℕ) → m ≡ At r → nth false (r - from) (seen iff x (tree rows from to)) ≡ true
-  pub first : (r i : ℕ) → m ≡ At r → from ≤ i → i < r → nth false (i - from) (seen iff x (tree rows from to)) ≡ false
-  pub found : (r : ℕ) → m ≡ At r → refers iff x (tree rows from to) ≡ true
-  pub nowhere : m ≡ Nowhere → refers iff x (tree rows from to) ≡ false
+pub record MentionTold (iff : Iff) (x : ℕ) (rows : List ℕ) (from to : ℕ) (m : Option ℕ) : Type 0 where
+  pub place : (r : ℕ) → m ≡ Some r → MentionAt x rows from to r
+  pub looked_at : (r : ℕ) → m ≡ Some r → nth false (r - from) (seen iff x (tree rows from to)) ≡ true
+  pub first : (r i : ℕ) → m ≡ Some r → from ≤ i → i < r → nth false (i - from) (seen iff x (tree rows from to)) ≡ false
+  pub found : (r : ℕ) → m ≡ Some r → refers iff x (tree rows from to) ≡ true
+  pub nowhere : m ≡ None → refers iff x (tree rows from to) ≡ false

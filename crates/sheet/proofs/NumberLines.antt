@@ -1,139 +1,86 @@
--- The lines that hold one number each: the code's table is the header's list, a line is read as the list tells of it, and holds a number in its range.
--- The lines left fall.
-use Prim.Native.Nat.{ℕ, zero, suc, ◌+◌, ◌-◌, ◌≤◌, ◌<◌}
+-- The lines that hold one number each: the code's tables are the header's two lists, a line is read as its list tells of it, and holds a number in its
+-- range.
+use Prim.Native.Nat.{ℕ, zero, suc, ◌+◌, ◌-◌, ◌*◌, ◌≤◌, ◌<◌}
 use mathlib.Core.Path.{◌≡◌, refl, sym, ap, ◌∙◌}
-use mathlib.Core.Bool.{true, false, cond, not}
-use mathlib.Core.List.{List, [], ◌∷◌, ◌++◌, map}
-use native.Mathlib.Nat.{add-zero, sub-zero}
+use mathlib.Core.List.{List, [], ◌∷◌, map}
+use native.Mathlib.Numerals.{add-one}
 use native.Mathlib.Omega.{arith}
-use lib.ListN.{length, take, drop, get_or, set, length-set}
-use lib.Seq.{take-append_seam, take-length}
-use borrow.Author.Tests.{not-true, not-false}
+use lib.ListN.{length, drop, get_or, set, length-set}
+use lib.Seq.{take-length}
+use Rattle.std.specs.Prelude.{Result, Ok, Err}
 use Rattle.refusals.specs.declared.Refusal.{Refusal}
-use Rattle.lines.specs.declared.NumberLine.{NumberLine}
-use Rattle.lines.specs.declared.NumberLine.TheVariants as N
+use Rattle.refusals.specs.declared.Refused.{Refused}
+use Rattle.lines.specs.declared.Line.{Line as LineRead}
 use Rattle.lines.specs.Lines.{number_line}
 use Rattle.lines.proofs.InRange.{Ranged, value_ranged}
 use Rattle.sheet_record.specs.declared.Record.{Record}
 use Rattle.sheet.specs.declared.header.KeyLine.{KeyLine}
-use Rattle.sheet.specs.declared.header.Head.TheVariants as H
-use Rattle.sheet.specs.declared.header.Facts.TheVariants as F
-use Rattle.sheet.specs.declared.sections.Section.{Section}
-use Rattle.sheet.specs.declared.sections.Section.TheVariants as S
-use Rattle.sheet.specs.Header.{Greatest, at_most, below_the_names, greatest, HeaderLine, head_lines, fact_lines, record_by, first_fact}
-use Rattle.sheet.specs.Sections.{Lines, read, refused, wrong_line, prepend, after_line, lines_from, of_number, number_step, head_from, facts_from}
-use Rattle.sheet.specs.Steps.{given_greatest, is_below_names, key_line, KeyHeld, greatest_by, KeyRead, header_from, section_of, Filled, head_of, facts_of}
-use Rattle.sheet.proofs.Going.{put_all, never, section_read, section_refused, Going, going_start, going_done, going_filled, going_wrong, wrong_filled, going_next}
+use Rattle.sheet.specs.Header.{greatest, HeaderLine, head_lines, fact_lines, record_by, first_fact}
+use Rattle.sheet.specs.Sections.{Lines, read, refused, prepend, after_line, lines_from, of_number, number_step, head_from, facts_from}
+use Rattle.sheet.specs.Steps.{at_line, limit_of, KeyOf, Keys, no_key, one_key, numbers_of, head_of, facts_of}
+use Rattle.sheet.proofs.Going.{put_all, at_line_ok, at_line_err, never, Going, going_start, going_done, going_filled, going_wrong, going_next}
 
--- `greatest_of`
-module _ (line : KeyLine) (names : ℕ) where
-  pub greatest_given : not line.below_names ≡ true → line.high ≡ greatest_by line names
-  unfolding greatest_by
-  greatest_given h = rw (not-true line.below_names h)
-
-  pub greatest_none : not line.below_names ≡ false → names ≡ 0 → 0 ≡ greatest_by line names
-  unfolding greatest_by
-  greatest_none h z = rw (not-false line.below_names h, z)
-
-  pub greatest_named : not line.below_names ≡ false → names - 1 ≡ greatest_by line names
-  unfolding greatest_by
-  greatest_named h = rw (not-false line.below_names h)
-
--- `key_line`: the front of the six bytes is the key
-key_front : (l : HeaderLine) → take ((key_line l).size - 0) (key_line l).key ≡ l.key
-unfolding key_line
-key_front l = let z : length l.key - 0 ≡ length l.key = omega arith in rw z (take-append_seam l.key _)
-
-low_told : (l : HeaderLine) → (key_line l).low ≡ l.low
-unfolding key_line
-low_told l = refl
-
-greatest_told : (l : HeaderLine) (names : ℕ) → greatest_by (key_line l) names ≡ greatest l.high names
-unfolding greatest_by key_line
-greatest_told l names = go l.high
-  where
-    go : (g : Greatest) → cond (is_below_names g) (names - 1) (given_greatest g) ≡ greatest g names
-    go (at_most n) = refl
-    go below_the_names = refl
-
-pub key_told : (line : KeyLine) (names : ℕ) (s : List ℕ) (at high : ℕ) (r : NumberLine) → high ≡ greatest_by line names → r ≡ number_line (take (line.size - 0) (drop 0 line.key)) line.low high s at → KeyRead line names s at r
-key_told line names s at high r h e = record { told = λ l q. e ∙ rw (h, q, key_front l, greatest_told l names, low_told l) }
-
--- each line of the code's table is one of the lists', and its key is held
-record Listed (header : List KeyLine) (k : ℕ) (d : KeyLine) : Type 0 where
+-- a line of a table is one of the header's
+record Listed (ks : List KeyLine) (ls : List HeaderLine) (i : ℕ) (d : KeyLine) : Type 0 where
   line : HeaderLine
-  is : get_or header k d ≡ key_line line
-  rest : header_from k ≡ line ∷ header_from (suc k)
-  held : KeyHeld (get_or header k d)
+  is : KeyOf (get_or ks i d) line
+  rest : drop i ls ≡ line ∷ drop (suc i) ls
 
-listed : (header : List KeyLine) (d : KeyLine) → header ≡ map key_line (head_lines ++ fact_lines) → (k : ℕ) → k < 6 → Listed header k d
-unfolding key_line
-listed header d e zero h = rw e (record { line = _; is = refl; rest = refl; held = record { some = omega arith; room = omega arith } })
-listed header d e (suc zero) h = rw e (record { line = _; is = refl; rest = refl; held = record { some = omega arith; room = omega arith } })
-listed header d e (suc (suc zero)) h = rw e (record { line = _; is = refl; rest = refl; held = record { some = omega arith; room = omega arith } })
-listed header d e (suc (suc (suc zero))) h = rw e (record { line = _; is = refl; rest = refl; held = record { some = omega arith; room = omega arith } })
-listed header d e (suc (suc (suc (suc zero)))) h = rw e (record { line = _; is = refl; rest = refl; held = record { some = omega arith; room = omega arith } })
-listed header d e (suc (suc (suc (suc (suc zero))))) h = rw e (record { line = _; is = refl; rest = refl; held = record { some = omega arith; room = omega arith } })
-listed header d e (suc (suc (suc (suc (suc (suc k)))))) h = absurd (omega arith)
+listed : {ks : List KeyLine} {ls : List HeaderLine} (i : ℕ) (d : KeyLine) → Keys ks ls → i < length ks → Listed ks ls i d
+listed i d no_key h = absurd (omega arith)
+listed zero d (one_key k t) h = record { line = _; is = k; rest = refl }
+listed (suc i) d (one_key k t) h = let l = listed i d t (omega arith) in record { line = l.line; is = l.is; rest = l.rest }
 
--- what the loop over the lines of the header knows at line i of them
-pub record NumberLoop (s : List ℕ) (from first names line : ℕ) (header : List KeyLine) (t₀ t : List ℕ) (at i : ℕ) : Type 0 where
-  pub going : Going (number_step names s) (header_from first) 1 (length t₀) from line t (header_from (first + i)) at (length t₀ - i) (line + i) i
-  pub kept : length t ≡ length t₀
-  pub upto : i ≤ length t₀
-  pub table : header ≡ map key_line (head_lines ++ fact_lines)
+pub keys_length : {ks : List KeyLine} {ls : List HeaderLine} → Keys ks ls → length ls ≡ length ks
+keys_length no_key = refl
+keys_length (one_key k t) = ap suc (keys_length t)
 
-pub number_loop_start : (s : List ℕ) (from first names line : ℕ) (header : List KeyLine) (t : List ℕ) → header ≡ map key_line (head_lines ++ fact_lines) → NumberLoop s from first names line header t t from 0
-number_loop_start s from first names line header t e = record {
-  going = rw (add-zero first, add-zero line, sub-zero) (going_start (number_step names s) (header_from first) 1 (length t) from line t);
-  kept = refl;
-  upto = omega arith;
-  table = e;
-}
+-- what the loop over a table's lines knows at line i
+pub record NumberLoop (s : List ℕ) (from first names : ℕ) (ks : List KeyLine) (ls : List HeaderLine) (numbers : List ℕ) (at i : ℕ) : Type 0 where
+  pub going : Going (number_step names s) ls 1 (length ls) from first numbers (drop i ls) at i
+  pub kept : length numbers ≡ length ks
 
-module _ (s : List ℕ) (from first names line : ℕ) (header : List KeyLine) (t₀ t : List ℕ) (at i : ℕ) (g : NumberLoop s from first names line header t₀ t at i) where
-  abbrev all : Lines
-  all = lines_from (number_step names s) (length t₀) (header_from first) from line
+module _ (s : List ℕ) (from first names : ℕ) (ks : List KeyLine) (ls : List HeaderLine) (t : Keys ks ls) where
+  pub number_loop_start : (numbers : List ℕ) → length numbers ≡ length ks → NumberLoop s from first names ks ls numbers from 0
+  number_loop_start numbers e = record { going = going_start (number_step names s) ls 1 (length ls) from first numbers; kept = e }
 
-  pub number_loop_done : length t ≤ i → S.Read at ≡ section_of all
-  number_loop_done h = sym (ap section_of (going_done (number_step names s) (header_from first) 1 (length t₀) from line t _ at _ _ i g.going (omega (arith, g.kept))))
+  module _ (numbers : List ℕ) (at i : ℕ) (g : NumberLoop s from first names ks ls numbers at i) where
+    pub number_loop_done : length ks ≤ i → Ok (record { value = numbers; next = at }) ≡ numbers_of (lines_from (number_step names s) (length ls) ls from first)
+    number_loop_done h =
+        let m : length ls ≤ i = omega (arith, keys_length t) in
+        let done = going_done (number_step names s) ls 1 (length ls) from first numbers _ at i g.going m in
+        let f = going_filled (number_step names s) ls 1 (length ls) from first numbers _ at i g.going m in
+        let a : 1 * length ls ≡ length numbers = omega (arith, keys_length t, g.kept) in
+        let b : numbers ≡ g.going.numbers = sym (take-length numbers) ∙ rw (← a) (f.front (omega arith) _ at done) in
+        rw (done, ← b)
 
-  pub number_loop_filled : length t ≤ i → Filled 1 (length t₀) all t
-  number_loop_filled h = going_filled (number_step names s) (header_from first) 1 (length t₀) from line t _ at _ _ i g.going (omega (arith, g.kept))
+    module _ (more : i < length ks) (d : KeyLine) where
+      here : Listed ks ls i d
+      here = listed i d t more
 
-  module _ (room : first + length t₀ ≤ 6) (more : i < length t) where
-    here : (d : KeyLine) → Listed header (first + i) d
-    here d = listed header d g.table (first + i) (omega (arith, g.kept))
+      module _ (high : ℕ) (h : high ≡ greatest (limit_of (get_or ks i d).high) names) (r : Result (LineRead ℕ) Refusal) (q : r ≡ number_line (get_or ks i d).key.now (get_or ks i d).low high s at) (m : Result (LineRead ℕ) Refused) (n : m ≡ at_line (first + i) r) where
+        told : r ≡ number_line here.line.key here.line.low (greatest here.line.high names) s at
+        told = q ∙ rw (h, here.is.key, here.is.low, here.is.high)
 
-    pub number_loop_held : (d : KeyLine) → KeyHeld (get_or header (first + i) d)
-    number_loop_held d = (here d).held
+        left : i < length ls
+        left = omega (arith, keys_length t)
 
-    module _ (d : KeyLine) (r : NumberLine) (q : KeyRead (get_or header (first + i) d) names s at r) where
-      told : r ≡ number_line (here d).line.key (here d).line.low (greatest (here d).line.high names) s at
-      told = q.told (here d).line (here d).is
+        pub number_loop_wrong : (x : Refused) → m ≡ Err x → Err x ≡ numbers_of (lines_from (number_step names s) (length ls) ls from first)
+        unfolding number_step
+        number_loop_wrong x e =
+            let w = at_line_err (first + i) r x (sym e ∙ n) in
+            let z : number_line here.line.key here.line.low (greatest here.line.high names) s at ≡ Err w.0 = sym told ∙ w.1.0 in
+            rw (w.1.1, going_wrong (number_step names s) ls 1 (length ls) from first numbers _ at i g.going left w.0 (rw (here.rest, z)))
 
-      step_wrong : (refusal : Refusal) → r ≡ N.Wrong refusal → number_step names s (header_from (first + i)) at ≡ wrong_line refusal
-      unfolding number_step
-      step_wrong refusal e = rw ((here d).rest, ← told, e)
-
-      pub number_loop_wrong : (refusal : Refusal) → r ≡ N.Wrong refusal → S.Refused refusal (line + i) ≡ section_of all
-      number_loop_wrong refusal e = sym (ap section_of (going_wrong (number_step names s) (header_from first) 1 (length t₀) from line t _ at _ _ i g.going (omega (arith, g.kept)) refusal (step_wrong refusal e)))
-
-      pub number_loop_wrong_filled : (refusal : Refusal) → r ≡ N.Wrong refusal → Filled 1 (length t₀) all t
-      number_loop_wrong_filled refusal e = wrong_filled (number_step names s) (header_from first) 1 (length t₀) from line t _ at _ _ i g.going (omega (arith, g.kept)) refusal t (step_wrong refusal e)
-
-      pub number_loop_next : (v next : ℕ) → r ≡ N.Value v next → NumberLoop s from first names line header t₀ (set t i v) next (i + 1)
-      unfolding number_step
-      number_loop_next v next e =
-          let a : first + (i + 1) ≡ suc (first + i) = omega arith in
-          let b : length t₀ - (i + 1) ≡ length t₀ - i - 1 = omega arith in
-          let c : line + (i + 1) ≡ line + i + 1 = omega arith in
-          record {
-            going = rw (a, b, c) (going_next (number_step names s) (header_from first) 1 (length t₀) from line t (header_from (first + i)) at (length t₀ - i) (line + i) i g.going (omega (arith, g.kept)) (v ∷ []) (header_from (suc (first + i))) next (rw ((here d).rest, ← told, e)) refl (set t i v) (put_all t i (v ∷ []) (omega arith)));
-            kept = length-set t i v ∙ g.kept;
-            upto = omega (arith, g.kept);
-            table = g.table;
-          }
+        pub number_loop_next : (l : LineRead ℕ) → m ≡ Ok l → NumberLoop s from first names ks ls (set numbers i l.value) l.next (i + 1)
+        unfolding number_step
+        number_loop_next l e =
+            let a : 1 * i ≡ i = omega arith in
+            let b : number_line here.line.key here.line.low (greatest here.line.high names) s at ≡ Ok l = sym told ∙ at_line_ok (first + i) r l (sym e ∙ n) in
+            record {
+              going = going_next (number_step names s) ls 1 (length ls) from first numbers (drop i ls) at i g.going left (l.value ∷ []) (drop (i + 1) ls) l.next (rw (add-one i, here.rest, b)) refl (set numbers i l.value) (rw a (put_all numbers i (l.value ∷ []) (omega (arith, g.kept))));
+              kept = length-set numbers i l.value ∙ g.kept;
+            }
 
 -- a number for each line, in its range
 pub data InRanges (names : ℕ) : List HeaderLine → List ℕ → Type 0 where
@@ -142,24 +89,23 @@ pub data InRanges (names : ℕ) : List HeaderLine → List ℕ → Type 0 where
 
 -- the first line of a list that was read, and those after it
 record FirstNumber (names : ℕ) (s : List ℕ) (l : HeaderLine) (ls : List HeaderLine) (at line : ℕ) (numbers : List ℕ) (end : ℕ) : Type 0 where
-  value : ℕ
-  next : ℕ
+  held : LineRead ℕ
   others : List ℕ
-  split : numbers ≡ value ∷ others
-  is : number_line l.key l.low (greatest l.high names) s at ≡ N.Value value next
-  after : lines_from (number_step names s) (length ls) ls next (line + 1) ≡ read others end
+  split : numbers ≡ held.value ∷ others
+  is : number_line l.key l.low (greatest l.high names) s at ≡ Ok held
+  after : lines_from (number_step names s) (length ls) ls held.next (line + 1) ≡ read others end
 
 first_number : (names : ℕ) (s : List ℕ) (l : HeaderLine) (ls : List HeaderLine) (at line : ℕ) (numbers : List ℕ) (end : ℕ) → lines_from (number_step names s) (suc (length ls)) (l ∷ ls) at line ≡ read numbers end → FirstNumber names s l ls at line numbers end
 unfolding lines_from number_step
 first_number names s l ls at line numbers end e = go (number_line l.key l.low (greatest l.high names) s at) refl e
   where
-    rest : (v next : ℕ) → number_line l.key l.low (greatest l.high names) s at ≡ N.Value v next → (m : Lines) → lines_from (number_step names s) (length ls) ls next (line + 1) ≡ m → prepend (v ∷ []) m ≡ read numbers end → FirstNumber names s l ls at line numbers end
-    rest v next q (read vs last) p e = record { value = v; next = next; others = vs; split = cc; is = q; after = cc }
-    rest v next q (refused refusal m) p e = never e
+    rest : (n : LineRead ℕ) → number_line l.key l.low (greatest l.high names) s at ≡ Ok n → (m : Lines) → lines_from (number_step names s) (length ls) ls n.next (line + 1) ≡ m → prepend (n.value ∷ []) m ≡ read numbers end → FirstNumber names s l ls at line numbers end
+    rest n q (read vs last) p e = record { held = n; others = vs; split = cc; is = q; after = cc }
+    rest n q (refused refusal m) p e = never e
 
-    go : (n : NumberLine) → number_line l.key l.low (greatest l.high names) s at ≡ n → after_line (of_number ls n) line (λ after next. lines_from (number_step names s) (length ls) after next (line + 1)) ≡ read numbers end → FirstNumber names s l ls at line numbers end
-    go (N.Value v next) q e = rest v next q (lines_from (number_step names s) (length ls) ls next (line + 1)) refl e
-    go (N.Wrong refusal) q e = never e
+    go : (n : Result (LineRead ℕ) Refusal) → number_line l.key l.low (greatest l.high names) s at ≡ n → after_line (of_number ls n) line (λ after next. lines_from (number_step names s) (length ls) after next (line + 1)) ≡ read numbers end → FirstNumber names s l ls at line numbers end
+    go (Ok n) q e = rest n q (lines_from (number_step names s) (length ls) ls n.next (line + 1)) refl e
+    go (Err refusal) q e = never e
 
 -- every line of a list that was read holds a number in its range
 pub numbers_ranged : (names : ℕ) (s : List ℕ) (ls : List HeaderLine) (at line : ℕ) (numbers : List ℕ) (end : ℕ) → lines_from (number_step names s) (length ls) ls at line ≡ read numbers end → InRanges names ls numbers
@@ -167,7 +113,7 @@ unfolding lines_from
 numbers_ranged names s [] at line numbers end e = let z : numbers ≡ [] = cc in rw z no_line
 numbers_ranged names s (l ∷ ls) at line numbers end e =
     let f = first_number names s l ls at line numbers end e in
-    rw f.split (ranged (value_ranged l.key l.low (greatest l.high names) s at f.value f.next f.is) (numbers_ranged names s ls f.next (line + 1) f.others end f.after))
+    rw f.split (ranged (value_ranged l.key l.low (greatest l.high names) s at f.held f.is) (numbers_ranged names s ls f.held.next (line + 1) f.others end f.after))
 
 -- the numbers of the first two lines, of which the second is the count of names
 pub record HeadTold (numbers : List ℕ) : Type 0 where
@@ -205,44 +151,33 @@ places names _ (ranged a (ranged b (ranged c (ranged d no_line)))) = record { co
 pub facts_placed : (names : ℕ) (s : List ℕ) (at : ℕ) (numbers : List ℕ) (next : ℕ) → facts_from names s at ≡ read numbers next → Places names numbers
 facts_placed names s at numbers next e = places names numbers (numbers_ranged names s fact_lines at (first_fact names) numbers next e)
 
--- the lines of a list are read the same where others follow them
-numbers_front : (names : ℕ) (s : List ℕ) (ls more : List HeaderLine) (at line : ℕ) → lines_from (number_step names s) (length ls) (ls ++ more) at line ≡ lines_from (number_step names s) (length ls) ls at line
-unfolding lines_from number_step
-numbers_front names s [] more at line = refl
-numbers_front names s (l ∷ ls) more at line = go (number_line l.key l.low (greatest l.high names) s at) (λ next. numbers_front names s ls more next (line + 1))
-  where
-    go : (n : NumberLine) → ((next : ℕ) → lines_from (number_step names s) (length ls) (ls ++ more) next (line + 1) ≡ lines_from (number_step names s) (length ls) ls next (line + 1)) → after_line (of_number (ls ++ more) n) line (λ after next. lines_from (number_step names s) (length ls) after next (line + 1)) ≡ after_line (of_number ls n) line (λ after next. lines_from (number_step names s) (length ls) after next (line + 1))
-    go (N.Value v next) h = ap (prepend (v ∷ [])) (h next)
-    go (N.Wrong refusal) h = refl
-
 -- `head_of`
-abbrev head_here : List ℕ → Lines
-head_here s = lines_from (number_step 0 s) 2 (header_from 0) 0 1
+head_told_as : (l : Lines) (head : LineRead (List ℕ)) → Ok head ≡ numbers_of l → Ok (record { value = get_or head.value 1 0; next = head.next }) ≡ head_of l
+head_told_as (read numbers next) head e = let z : head ≡ record { value = numbers; next = next } = cc in rw z
+head_told_as (refused refusal line) head e = absurd (cc)
 
-head_here_lem : (s : List ℕ) → head_here s ≡ head_from s
-head_here_lem s = numbers_front 0 s head_lines fact_lines 0 1
-
-module _ (s : List ℕ) (r : Section) (e : r ≡ section_of (head_here s)) where
-  pub head_refused : (refusal : Refusal) (line : ℕ) → r ≡ S.Refused refusal line → H.Refused refusal line ≡ head_of (head_from s)
-  head_refused refusal line q = rw (← head_here_lem s, section_refused (head_here s) refusal line (sym q ∙ e))
-
-  pub head_read : (head : List ℕ) → Filled 1 2 (head_here s) head → length head ≡ 2 → (next : ℕ) → r ≡ S.Read next → H.Read (get_or head 1 0) next ≡ head_of (head_from s)
-  head_read head w l next q =
-      let t = section_read (head_here s) next (sym q ∙ e) in
-      let a : take 2 head ≡ head = rw (← l) (take-length head) in
-      let b : head ≡ t.0 = sym a ∙ w.front (omega arith) t.0 next t.1 in
-      rw (← head_here_lem s, t.1, b)
+head_refused_as : (l : Lines) (x : Refused) → Err x ≡ numbers_of l → Err x ≡ head_of l
+head_refused_as (read numbers next) x e = absurd (cc)
+head_refused_as (refused refusal line) x e = let z : x ≡ record { refusal = refusal; place = line } = cc in rw z
 
 -- `facts_from`
-module _ (names : ℕ) (s : List ℕ) (at : ℕ) (r : Section) (e : r ≡ section_of (facts_from names s at)) where
-  pub facts_refused : (refusal : Refusal) (line : ℕ) → r ≡ S.Refused refusal line → F.Refused refusal line ≡ facts_of names (facts_from names s at)
-  facts_refused refusal line q = rw (section_refused (facts_from names s at) refusal line (sym q ∙ e))
+facts_told_as : (names : ℕ) (l : Lines) (facts : LineRead (List ℕ)) → Ok facts ≡ numbers_of l → Ok (record { value = record_by names facts.value; next = facts.next }) ≡ facts_of names l
+facts_told_as names (read numbers next) facts e = let z : facts ≡ record { value = numbers; next = next } = cc in rw z
+facts_told_as names (refused refusal line) facts e = absurd (cc)
 
-  pub facts_read : (facts : List ℕ) → Filled 1 4 (facts_from names s at) facts → length facts ≡ 4 → (next : ℕ) → r ≡ S.Read next → F.Read (record_by names facts) next ≡ facts_of names (facts_from names s at)
-  facts_read facts w l next q =
-      let t = section_read (facts_from names s at) next (sym q ∙ e) in
-      let a : take 4 facts ≡ facts = rw (← l) (take-length facts) in
-      let b : facts ≡ t.0 = sym a ∙ w.front (omega arith) t.0 next t.1 in
-      rw (t.1, b)
+facts_refused_as : (names : ℕ) (l : Lines) (x : Refused) → Err x ≡ numbers_of l → Err x ≡ facts_of names l
+facts_refused_as names (read numbers next) x e = absurd (cc)
+facts_refused_as names (refused refusal line) x e = let z : x ≡ record { refusal = refusal; place = line } = cc in rw z
 
-pub ruleset lines = (greatest_given, greatest_none, greatest_named, key_told, number_loop_start, number_loop_done, number_loop_filled, number_loop_held, number_loop_wrong, number_loop_wrong_filled, number_loop_next, head_refused, head_read, facts_refused, facts_read)
+module _ (r : Result (LineRead (List ℕ)) Refused) (l : Lines) (e : r ≡ numbers_of l) where
+  pub head_refused : (x : Refused) → r ≡ Err x → Err x ≡ head_of l
+  head_refused x q = head_refused_as l x (sym q ∙ e)
+
+  pub head_read : (head : LineRead (List ℕ)) → r ≡ Ok head → Ok (record { value = get_or head.value 1 0; next = head.next }) ≡ head_of l
+  head_read head q = head_told_as l head (sym q ∙ e)
+
+  pub facts_refused : (names : ℕ) (x : Refused) → r ≡ Err x → Err x ≡ facts_of names l
+  facts_refused names x q = facts_refused_as names l x (sym q ∙ e)
+
+  pub facts_read : (names : ℕ) (facts : LineRead (List ℕ)) → r ≡ Ok facts → Ok (record { value = record_by names facts.value; next = facts.next }) ≡ facts_of names l
+  facts_read names facts q = facts_told_as names l facts (sym q ∙ e)

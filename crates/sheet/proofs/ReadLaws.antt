@@ -12,12 +12,11 @@ use lib.Seq.{get_or-append-add}
 use Rattle.kinds.specs.Kinds.{bytes, entry, side_fits}
 use Rattle.table.specs.Rows.{kind_at, side_at}
 use Rattle.text.specs.Fields.{field, ends_by, starts_with, below, all_graphic}
+use Rattle.std.specs.Prelude.{Result, Ok, Err}
+use Rattle.refusals.specs.declared.Refusal.{Refusal}
+use Rattle.lines.specs.declared.Line.{Line as LineRead}
 use Rattle.lines.specs.declared.Name.{Name}
-use Rattle.lines.specs.declared.NameLine.{NameLine}
-use Rattle.lines.specs.declared.NameLine.TheVariants as M
 use Rattle.lines.specs.declared.Row.{Row}
-use Rattle.lines.specs.declared.RowLine.{RowLine}
-use Rattle.lines.specs.declared.RowLine.TheVariants as R
 use Rattle.lines.specs.Lines.{jump_mark, name_line, row_at}
 use Rattle.lines.proofs.Told.{field_within, field_back, field_after, NameTold, name_told, name_text_lem, row_told}
 use Rattle.sheet_record.specs.Records.{offset_at, size_at, mark_at, text_at}
@@ -121,25 +120,26 @@ pub record NameEntry (s table : List ℕ) (i : ℕ) : Type 0 where
 
 -- a line that holds a name
 record NameHeld (s text : List ℕ) (at : ℕ) (own new : List ℕ) (next : ℕ) : Type 0 where
-  name : Name
-  told : NameTold text s at name next
-  own_is : own ≡ name_numbers name
-  new_is : new ≡ name_text s name
+  line : LineRead Name
+  told : NameTold text s at line
+  own_is : own ≡ name_numbers line.value
+  new_is : new ≡ name_text s line.value
+  next_is : next ≡ line.next
 
 name_held : (s text : List ℕ) (at : ℕ) (own new : List ℕ) (next : ℕ) → name_step s text at ≡ right_line own new next → NameHeld s text at own new next
 unfolding name_step
 name_held s text at own new next e = go (name_line text s at) refl e
   where
-    go : (l : NameLine) → name_line text s at ≡ l → of_name s l ≡ right_line own new next → NameHeld s text at own new next
-    go (M.Read name n) q e = record { name = name; told = name_told text s at name next (cc); own_is = cc; new_is = cc }
-    go (M.Wrong refusal) q e = absurd (let z : ◌≡◌ {A = ℕ} 0 1 = cc in omega arith)
+    go : (l : Result (LineRead Name) Refusal) → name_line text s at ≡ l → of_name s l ≡ right_line own new next → NameHeld s text at own new next
+    go (Ok line) q e = record { line = line; told = name_told text s at line q; own_is = cc; new_is = cc; next_is = cc }
+    go (Err refusal) q e = absurd (let z : ◌≡◌ {A = ℕ} 0 1 = cc in omega arith)
 
 -- the three numbers of such a line, as the table has them
 module _ (s numbers : List ℕ) (i : ℕ) (text : List ℕ) (at : ℕ) (l : LineAt (name_step s) 3 numbers i text at) where
   held : NameHeld s text at l.own l.new l.next
   held = name_held s text at l.own l.new l.next l.is
 
-  told : NameTold text s at held.name l.next
+  told : NameTold text s at held.line
   told = held.told
 
   offset_is : offset_at numbers i ≡ at + 5
@@ -170,10 +170,10 @@ module _ (s numbers : List ℕ) (i : ℕ) (text : List ℕ) (at : ℕ) (l : Line
 
   -- what the line after it is held against, and where that starts
   new_is : l.new ≡ text_at s numbers i
-  new_is = held.new_is ∙ name_text_lem text s at held.name l.next told ∙ sym text_is
+  new_is = held.new_is ∙ name_text_lem text s at held.line told ∙ sym text_is
 
   next_is : l.next ≡ offset_at numbers i + size_at numbers i + 1
-  next_is = told.goes_on ∙ field_after 10 10 s (at + 5) told.ended ∙ rw (offset_is, size_is)
+  next_is = held.next_is ∙ told.goes_on ∙ field_after 10 10 s (at + 5) told.ended ∙ rw (offset_is, size_is)
 
 name_wide : (s text : List ℕ) (at : ℕ) (own new : List ℕ) (next : ℕ) → name_step s text at ≡ right_line own new next → length own ≡ 3
 name_wide s text at own new next e = rw (name_held s text at own new next e).own_is
@@ -236,17 +236,17 @@ module _ (s numbers more : List ℕ) (i count : ℕ) (l : length numbers ≡ 3 *
 
 -- a line that holds a row
 record RowHeld (names : ℕ) (s : List ℕ) (at : ℕ) (own : List ℕ) (next : ℕ) : Type 0 where
-  row : Row
-  is : row_at names s at ≡ R.Read row next
-  own_is : own ≡ row_numbers row
+  line : LineRead Row
+  is : row_at names s at ≡ Ok line
+  own_is : own ≡ row_numbers line.value
 
 row_held : (names : ℕ) (s : List ℕ) (by : Unit {0}) (at : ℕ) (own : List ℕ) (new : Unit {0}) (next : ℕ) → row_step names s by at ≡ right_line own new next → RowHeld names s at own next
 unfolding row_step
 row_held names s by at own new next e = go (row_at names s at) refl e
   where
-    go : (l : RowLine) → row_at names s at ≡ l → of_row l ≡ right_line own new next → RowHeld names s at own next
-    go (R.Read row n) q e = record { row = row; is = cc; own_is = cc }
-    go (R.Wrong refusal) q e = absurd (let z : ◌≡◌ {A = ℕ} 0 1 = cc in omega arith)
+    go : (l : Result (LineRead Row) Refusal) → row_at names s at ≡ l → of_row l ≡ right_line own new next → RowHeld names s at own next
+    go (Ok line) q e = record { line = line; is = q; own_is = cc }
+    go (Err refusal) q e = absurd (let z : ◌≡◌ {A = ℕ} 0 1 = cc in omega arith)
 
 row_wide : (names : ℕ) (s : List ℕ) (by : Unit {0}) (at : ℕ) (own : List ℕ) (new : Unit {0}) (next : ℕ) → row_step names s by at ≡ right_line own new next → length own ≡ 5
 row_wide names s by at own new next e = rw (row_held names s by at own new next e).own_is
@@ -261,9 +261,9 @@ module _ (names : ℕ) (s : List ℕ) (count : ℕ) (by : Unit {0}) (at line : �
       let t = line_at (row_step names s) 5 (row_wide names s) i count by at line numbers next e h in
       let l = t.this in
       let r = row_held names s t.by t.at l.own l.new l.next l.is in
-      let kind : kind_at numbers i ≡ r.row.kind = rw (add-zero (5 * i), r.own_is) at (l.placed 0 (omega arith)) in
-      let side : side_at numbers i ≡ r.row.side = rw r.own_is at (l.placed 1 (omega arith)) in
-      rw (kind, side) (row_told names s t.at r.row l.next r.is)
+      let kind : kind_at numbers i ≡ r.line.value.kind = rw (add-zero (5 * i), r.own_is) at (l.placed 0 (omega arith)) in
+      let side : side_at numbers i ≡ r.line.value.side = rw r.own_is at (l.placed 1 (omega arith)) in
+      rw (kind, side) (row_told names s t.at r.line r.is)
 
   pub rows_kind : (i : ℕ) → i < count → kind_at numbers i < 66
   rows_kind i h = (right i h).0

@@ -5,21 +5,17 @@ use mathlib.Core.List.{List}
 use native.Mathlib.Omega.{arith}
 use lib.ListN.{length, take, get_or}
 use borrow.Author.Tests.{lt-ltb, le-ltb}
+use Rattle.std.specs.Prelude.{Result, Ok, Err}
 use Rattle.refusals.specs.declared.Refusal.{Refusal}
+use Rattle.refusals.specs.declared.Refused.{Refused}
+use Rattle.refusals.specs.Refusals.{refused_at}
 use Rattle.refusals.specs.declared.Refusal.TheVariants.{WrongLine}
 use Rattle.lines.proofs.InRange.{Ranged}
 use Rattle.sheet_record.specs.declared.Record.{Record}
-use Rattle.sheet.specs.declared.Loaded.{Loaded}
-use Rattle.sheet.specs.declared.Loaded.TheVariants.{Done, Refused}
-use Rattle.sheet.specs.declared.header.Head.{Head}
-use Rattle.sheet.specs.declared.header.Head.TheVariants as H
-use Rattle.sheet.specs.declared.header.Facts.{Facts}
-use Rattle.sheet.specs.declared.header.Facts.TheVariants as F
-use Rattle.sheet.specs.declared.sections.Section.{Section}
-use Rattle.sheet.specs.declared.sections.Section.TheVariants as S
+use Rattle.lines.specs.declared.Line.{Line}
 use Rattle.sheet.specs.Header.{record_by}
 use Rattle.sheet.specs.Sections.{Lines, read, refused, after_lines, head_from, names_from, facts_from, rows_from}
-use Rattle.sheet.specs.Load.{record_of, Before, before, stopped, before_rows, parsed, wrong, line_of, lines_of}
+use Rattle.sheet.specs.Load.{Before, before, stopped, before_rows, parsed, wrong, line_of, lines_of}
 use Rattle.sheet.specs.Steps.{section_of, Filled, head_of, facts_of, before_of, answer_of, NamesFilled, BothFilled}
 use Rattle.sheet.proofs.Going.{section_read, section_refused}
 use Rattle.sheet.proofs.NumberLines.{FactsTold, head_told, facts_told}
@@ -27,21 +23,21 @@ use Rattle.sheet.proofs.NumberLines.{FactsTold, head_told, facts_told}
 apart : {A : Type 0} → ◌≡◌ {A = ℕ} 0 1 → A
 apart z = absurd (omega (arith, z))
 
-head_refused : (l : Lines) (refusal : Refusal) (line : ℕ) → H.Refused refusal line ≡ head_of l → l ≡ refused refusal line
-head_refused (read numbers n) refusal line e = apart (cc)
-head_refused (refused f m) refusal line e = cc
+head_refused : (l : Lines) (x : Refused) → Err x ≡ head_of l → l ≡ refused x.refusal x.place
+head_refused (read numbers n) x e = apart (cc)
+head_refused (refused f m) x e = let z : x ≡ record { refusal = f; place = m } = cc in rw z
 
-head_numbers : (l : Lines) (count at : ℕ) → H.Read count at ≡ head_of l → (head : List ℕ) × ((l ≡ read head at) × (get_or head 1 0 ≡ count))
-head_numbers (read numbers n) count at e = let z : n ≡ at = cc in (numbers, (ap (read numbers) z, cc))
-head_numbers (refused f m) count at e = apart (cc)
+head_numbers : (l : Lines) (head : Line ℕ) → Ok head ≡ head_of l → (numbers : List ℕ) × ((l ≡ read numbers head.next) × (get_or numbers 1 0 ≡ head.value))
+head_numbers (read numbers n) head e = let z : head ≡ record { value = get_or numbers 1 0; next = n } = cc in (numbers, (rw z, rw z))
+head_numbers (refused f m) head e = apart (cc)
 
-facts_read : (b : Before) (r : Record) (next : ℕ) → F.Read r next ≡ before_of b → (numbers : List ℕ) × (b ≡ before r numbers next)
-facts_read (before q numbers n) r next e = let z : n ≡ next = cc in let y : q ≡ r = cc in (numbers, rw (z, y))
-facts_read (stopped refusal line) r next e = apart (cc)
+facts_read : (b : Before) (facts : Line Record) → Ok facts ≡ before_of b → (numbers : List ℕ) × (b ≡ before facts.value numbers facts.next)
+facts_read (before q numbers n) facts e = let z : facts ≡ record { value = q; next = n } = cc in (numbers, rw z)
+facts_read (stopped refusal line) facts e = apart (cc)
 
-facts_refused : (b : Before) (refusal : Refusal) (line : ℕ) → F.Refused refusal line ≡ before_of b → b ≡ stopped refusal line
-facts_refused (before q numbers n) refusal line e = apart (cc)
-facts_refused (stopped f m) refusal line e = cc
+facts_refused : (b : Before) (x : Refused) → Err x ≡ before_of b → b ≡ stopped x.refusal x.place
+facts_refused (before q numbers n) x e = apart (cc)
+facts_refused (stopped f m) x e = let z : x ≡ record { refusal = f; place = m } = cc in rw z
 
 not_stopped : {A : Type 0} {refusal : Refusal} {line : ℕ} {r : Record} {numbers : List ℕ} {next : ℕ} → stopped refusal line ≡ before r numbers next → A
 not_stopped e = apart (cc)
@@ -106,40 +102,40 @@ stopped_filled : (s : List ℕ) (refusal : Refusal) (line : ℕ) (t : List ℕ) 
 stopped_filled s refusal line t e = record { front = λ r numbers next q h. not_stopped (sym e ∙ q) }
 
 -- `read_names`: the head, the names, the facts
-module _ (s : List ℕ) (h : Head) (p : h ≡ head_of (head_from s)) where
-  head_stops : (refusal : Refusal) (line : ℕ) → h ≡ H.Refused refusal line → before_rows s ≡ stopped refusal line
+module _ (s : List ℕ) (h : Result (Line ℕ) Refused) (p : h ≡ head_of (head_from s)) where
+  head_stops : (x : Refused) → h ≡ Err x → before_rows s ≡ stopped x.refusal x.place
   unfolding before_rows
-  head_stops refusal line e = rw (head_refused (head_from s) refusal line (sym e ∙ p))
+  head_stops x e = rw (head_refused (head_from s) x (sym e ∙ p))
 
-  pub names_head : (refusal : Refusal) (line : ℕ) → h ≡ H.Refused refusal line → F.Refused refusal line ≡ before_of (before_rows s)
-  names_head refusal line e = rw (head_stops refusal line e)
+  pub names_head : (x : Refused) → h ≡ Err x → Err x ≡ before_of (before_rows s)
+  names_head x e = rw (head_stops x e)
 
-  pub head_filled : (refusal : Refusal) (line : ℕ) (t : List ℕ) → h ≡ H.Refused refusal line → NamesFilled s t
-  head_filled refusal line t e = stopped_filled s refusal line t (head_stops refusal line e)
+  pub head_filled : (x : Refused) (t : List ℕ) → h ≡ Err x → NamesFilled s t
+  head_filled x t e = stopped_filled s x.refusal x.place t (head_stops x e)
 
-  module _ (count at : ℕ) (d : h ≡ H.Read count at) where
-    first : (head : List ℕ) × ((head_from s ≡ read head at) × (get_or head 1 0 ≡ count))
-    first = head_numbers (head_from s) count at (sym d ∙ p)
+  module _ (head : Line ℕ) (d : h ≡ Ok head) where
+    first : (numbers : List ℕ) × ((head_from s ≡ read numbers head.next) × (get_or numbers 1 0 ≡ head.value))
+    first = head_numbers (head_from s) head (sym d ∙ p)
 
-    pub count_most : count ≤ 500
-    count_most = omega (arith, (head_told s first.0 at first.1.0).names.most, first.1.1)
+    pub count_most : head.value ≤ 500
+    count_most = omega (arith, (head_told s first.0 head.next first.1.0).names.most, first.1.1)
 
-    module _ (c : Section) (q : c ≡ section_of (names_from (count) s at)) where
-      names_stop : (refusal : Refusal) (line : ℕ) → c ≡ S.Refused refusal line → before_rows s ≡ stopped refusal line
+    module _ (c : Result ℕ Refused) (q : c ≡ section_of (names_from head.value s head.next)) where
+      names_stop : (x : Refused) → c ≡ Err x → before_rows s ≡ stopped x.refusal x.place
       unfolding before_rows
-      names_stop refusal line e = rw (first.1.0, first.1.1, section_refused (names_from (count) s at) refusal line (sym e ∙ q))
+      names_stop x e = rw (first.1.0, first.1.1, section_refused (names_from head.value s head.next) x (sym e ∙ q))
 
-      pub names_section : (refusal : Refusal) (line : ℕ) → c ≡ S.Refused refusal line → F.Refused refusal line ≡ before_of (before_rows s)
-      names_section refusal line e = rw (names_stop refusal line e)
+      pub names_section : (x : Refused) → c ≡ Err x → Err x ≡ before_of (before_rows s)
+      names_section x e = rw (names_stop x e)
 
-      pub section_filled : (refusal : Refusal) (line : ℕ) (t : List ℕ) → c ≡ S.Refused refusal line → NamesFilled s t
-      section_filled refusal line t e = stopped_filled s refusal line t (names_stop refusal line e)
+      pub section_filled : (x : Refused) (t : List ℕ) → c ≡ Err x → NamesFilled s t
+      section_filled x t e = stopped_filled s x.refusal x.place t (names_stop x e)
 
-      module _ (next : ℕ) (e : c ≡ S.Read next) where
-        told : (numbers : List ℕ) × (names_from (count) s at ≡ read numbers next)
-        told = section_read (names_from (count) s at) next (sym e ∙ q)
+      module _ (next : ℕ) (e : c ≡ Ok next) where
+        told : (numbers : List ℕ) × (names_from head.value s head.next ≡ read numbers next)
+        told = section_read (names_from head.value s head.next) next (sym e ∙ q)
 
-        whole : before_rows s ≡ after_lines stopped (facts_from (count) s next) (λ facts at. before (record_by (count) facts) told.0 at)
+        whole : before_rows s ≡ after_lines stopped (facts_from head.value s next) (λ facts at. before (record_by head.value facts) told.0 at)
         unfolding before_rows
         whole = rw (first.1.0, first.1.1, told.1)
 
@@ -147,19 +143,19 @@ module _ (s : List ℕ) (h : Head) (p : h ≡ head_of (head_from s)) where
         with_facts n ns (read facts at) = refl
         with_facts n ns (refused refusal line) = refl
 
-        pub names_facts : (r : Facts) → r ≡ facts_of (count) (facts_from (count) s next) → r ≡ before_of (before_rows s)
-        names_facts r t = t ∙ with_facts (count) told.0 (facts_from (count) s next) ∙ ap before_of (sym whole)
+        pub names_facts : (r : Result (Line Record) Refused) → r ≡ facts_of head.value (facts_from head.value s next) → r ≡ before_of (before_rows s)
+        names_facts r t = t ∙ with_facts head.value told.0 (facts_from head.value s next) ∙ ap before_of (sym whole)
 
-        pub names_filled : (t : List ℕ) → Filled 3 (count) (names_from (count) s at) t → NamesFilled s t
+        pub names_filled : (t : List ℕ) → Filled 3 head.value (names_from head.value s head.next) t → NamesFilled s t
         names_filled t w = record { front = λ r ns n b k. front r ns (before_parts s r ns n b) k }
           where
             front : (r : Record) (ns : List ℕ) {n : ℕ} → BeforeParts s r ns n → 3 * r.names ≤ length t → take (3 * r.names) t ≡ ns
             front r ns parts k =
-                let h : read first.0 at ≡ read parts.head parts.names_at = sym first.1.0 ∙ parts.first in
+                let h : read first.0 head.next ≡ read parts.head parts.names_at = sym first.1.0 ∙ parts.first in
                 let i : parts.head ≡ first.0 = cc in
-                let x : count ≡ r.names = sym (parts.counted ∙ ap (λ (l : List ℕ). get_or l 1 0) i ∙ first.1.1) in
-                let y : at ≡ parts.names_at = cc in
-                let f : names_from (count) s at ≡ read ns parts.facts_at = ap (λ (c : ℕ). names_from c s at) x ∙ ap (names_from r.names s) y ∙ parts.names in
+                let x : head.value ≡ r.names = sym (parts.counted ∙ ap (λ (l : List ℕ). get_or l 1 0) i ∙ first.1.1) in
+                let y : head.next ≡ parts.names_at = cc in
+                let f : names_from head.value s head.next ≡ read ns parts.facts_at = ap (λ (c : ℕ). names_from c s head.next) x ∙ ap (names_from r.names s) y ∙ parts.names in
                 ap (λ (c : ℕ). take (3 * c) t) (sym x) ∙ w.front (omega (arith, x, k)) ns parts.facts_at f
 
 -- `read_lines`: the lines before the rows, and the rows
@@ -169,82 +165,76 @@ not_wrong e = apart (cc)
 wrong_filled : (s : List ℕ) (refusal : Refusal) (line : ℕ) (rows names : List ℕ) → lines_of s ≡ wrong refusal line → BothFilled s rows names
 wrong_filled s refusal line rows names e = record { row_front = λ r ns rs q h. not_wrong (sym e ∙ q); name_front = λ r ns rs q h. not_wrong (sym e ∙ q) }
 
-module _ (s : List ℕ) (f : Facts) (p : f ≡ before_of (before_rows s)) where
-  before_stops : (refusal : Refusal) (line : ℕ) → f ≡ F.Refused refusal line → lines_of s ≡ wrong refusal line
+module _ (s : List ℕ) (f : Result (Line Record) Refused) (p : f ≡ before_of (before_rows s)) where
+  before_stops : (x : Refused) → f ≡ Err x → lines_of s ≡ wrong x.refusal x.place
   unfolding lines_of
-  before_stops refusal line e = rw (facts_refused (before_rows s) refusal line (sym e ∙ p))
+  before_stops x e = rw (facts_refused (before_rows s) x (sym e ∙ p))
 
-  pub lines_before : (refusal : Refusal) (line : ℕ) → f ≡ F.Refused refusal line → Refused refusal line ≡ answer_of (lines_of s)
-  lines_before refusal line e = rw (before_stops refusal line e)
+  pub lines_before : (x : Refused) → f ≡ Err x → Err x ≡ answer_of (lines_of s)
+  lines_before x e = rw (before_stops x e)
 
-  pub before_filled : (refusal : Refusal) (line : ℕ) (rows names : List ℕ) → f ≡ F.Refused refusal line → BothFilled s rows names
-  before_filled refusal line rows names e = wrong_filled s refusal line rows names (before_stops refusal line e)
+  pub before_filled : (x : Refused) (rows names : List ℕ) → f ≡ Err x → BothFilled s rows names
+  before_filled x rows names e = wrong_filled s x.refusal x.place rows names (before_stops x e)
 
-  module _ (r : Record) (at : ℕ) (d : f ≡ F.Read r at) where
-    known : (numbers : List ℕ) × (before_rows s ≡ before r numbers at)
-    known = facts_read (before_rows s) r at (sym d ∙ p)
+  module _ (facts : Line Record) (d : f ≡ Ok facts) where
+    known : (numbers : List ℕ) × (before_rows s ≡ before facts.value numbers facts.next)
+    known = facts_read (before_rows s) facts (sym d ∙ p)
 
-    pub few_rows : r.rows ≤ 2000
-    few_rows = (before_told s r known.0 at known.1).facts.rows.most
+    pub few_rows : facts.value.rows ≤ 2000
+    few_rows = (before_told s facts.value known.0 facts.next known.1).facts.rows.most
 
-    pub few_names : r.names ≤ 500
-    few_names = (before_told s r known.0 at known.1).names.most
+    pub few_names : facts.value.names ≤ 500
+    few_names = (before_told s facts.value known.0 facts.next known.1).names.most
 
-    module _ (c : Section) (q : c ≡ section_of (rows_from r.names r.rows s at)) where
-      rows_stop : (refusal : Refusal) (line : ℕ) → c ≡ S.Refused refusal line → lines_of s ≡ wrong refusal line
+    module _ (c : Result ℕ Refused) (q : c ≡ section_of (rows_from facts.value.names facts.value.rows s facts.next)) where
+      rows_stop : (x : Refused) → c ≡ Err x → lines_of s ≡ wrong x.refusal x.place
       unfolding lines_of
-      rows_stop refusal line e = rw (known.1, section_refused (rows_from r.names r.rows s at) refusal line (sym e ∙ q))
+      rows_stop x e = rw (known.1, section_refused (rows_from facts.value.names facts.value.rows s facts.next) x (sym e ∙ q))
 
-      pub lines_rows : (refusal : Refusal) (line : ℕ) → c ≡ S.Refused refusal line → Refused refusal line ≡ answer_of (lines_of s)
-      lines_rows refusal line e = rw (rows_stop refusal line e)
+      pub lines_rows : (x : Refused) → c ≡ Err x → Err x ≡ answer_of (lines_of s)
+      lines_rows x e = rw (rows_stop x e)
 
-      pub rows_filled : (refusal : Refusal) (line : ℕ) (rows names : List ℕ) → c ≡ S.Refused refusal line → BothFilled s rows names
-      rows_filled refusal line rows names e = wrong_filled s refusal line rows names (rows_stop refusal line e)
+      pub rows_filled : (x : Refused) (rows names : List ℕ) → c ≡ Err x → BothFilled s rows names
+      rows_filled x rows names e = wrong_filled s x.refusal x.place rows names (rows_stop x e)
 
-      module _ (end : ℕ) (e : c ≡ S.Read end) where
-        read_rows : (numbers : List ℕ) × (rows_from r.names r.rows s at ≡ read numbers end)
-        read_rows = section_read (rows_from r.names r.rows s at) end (sym e ∙ q)
+      module _ (end : ℕ) (e : c ≡ Ok end) where
+        read_rows : (numbers : List ℕ) × (rows_from facts.value.names facts.value.rows s facts.next ≡ read numbers end)
+        read_rows = section_read (rows_from facts.value.names facts.value.rows s facts.next) end (sym e ∙ q)
 
         -- a line after the last row
-        extra : end < length s → lines_of s ≡ wrong WrongLine (line_of r r.rows)
+        extra : end < length s → lines_of s ≡ wrong WrongLine (line_of facts.value facts.value.rows)
         unfolding lines_of
         extra h = rw (known.1, read_rows.1, lt-ltb end (length s) h)
 
-        pub lines_extra : end < length s → (line : ℕ) → line ≡ line_of r r.rows → Refused WrongLine line ≡ answer_of (lines_of s)
+        pub lines_extra : end < length s → (line : ℕ) → line ≡ line_of facts.value facts.value.rows → refused_at WrongLine line ≡ answer_of (lines_of s)
         lines_extra h line q = rw (extra h, q)
 
         pub extra_filled : (rows names : List ℕ) → end < length s → BothFilled s rows names
-        extra_filled rows names h = wrong_filled s WrongLine (line_of r r.rows) rows names (extra h)
+        extra_filled rows names h = wrong_filled s WrongLine (line_of facts.value facts.value.rows) rows names (extra h)
 
-        all : length s ≤ end → lines_of s ≡ parsed r known.0 read_rows.0
+        all : length s ≤ end → lines_of s ≡ parsed facts.value known.0 read_rows.0
         unfolding lines_of
         all h = rw (known.1, read_rows.1, le-ltb end (length s) h)
 
-        pub lines_done : length s ≤ end → Done r ≡ answer_of (lines_of s)
+        pub lines_done : length s ≤ end → Ok facts.value ≡ answer_of (lines_of s)
         lines_done h = rw (all h)
 
-        pub done_filled : (rows names : List ℕ) → Filled 5 r.rows (rows_from r.names r.rows s at) rows → NamesFilled s names → length s ≤ end → BothFilled s rows names
+        pub done_filled : (rows names : List ℕ) → Filled 5 facts.value.rows (rows_from facts.value.names facts.value.rows s facts.next) rows → NamesFilled s names → length s ≤ end → BothFilled s rows names
         done_filled rows names w v h = record { row_front = λ x ns rs b k. row_front x ns rs (same x ns rs b) k; name_front = λ x ns rs b k. name_front x ns rs (same x ns rs b) k }
           where
-            same : (x : Record) (ns rs : List ℕ) → lines_of s ≡ parsed x ns rs → parsed r known.0 read_rows.0 ≡ parsed x ns rs
+            same : (x : Record) (ns rs : List ℕ) → lines_of s ≡ parsed x ns rs → parsed facts.value known.0 read_rows.0 ≡ parsed x ns rs
             same x ns rs b = sym (all h) ∙ b
 
-            row_front : (x : Record) (ns rs : List ℕ) → parsed r known.0 read_rows.0 ≡ parsed x ns rs → 5 * x.rows ≤ length rows → take (5 * x.rows) rows ≡ rs
+            row_front : (x : Record) (ns rs : List ℕ) → parsed facts.value known.0 read_rows.0 ≡ parsed x ns rs → 5 * x.rows ≤ length rows → take (5 * x.rows) rows ≡ rs
             row_front x ns rs b k =
-                let y : x ≡ r = cc in
+                let y : x ≡ facts.value = cc in
                 let z : read_rows.0 ≡ rs = cc in
-                let n : x.rows ≡ r.rows = ap (λ (m : Record). m.rows) y in
+                let n : x.rows ≡ facts.value.rows = ap (λ (m : Record). m.rows) y in
                 ap (λ (m : ℕ). take (5 * m) rows) n ∙ w.front (omega (arith, n, k)) read_rows.0 end read_rows.1 ∙ z
 
-            name_front : (x : Record) (ns rs : List ℕ) → parsed r known.0 read_rows.0 ≡ parsed x ns rs → 3 * x.names ≤ length names → take (3 * x.names) names ≡ ns
+            name_front : (x : Record) (ns rs : List ℕ) → parsed facts.value known.0 read_rows.0 ≡ parsed x ns rs → 3 * x.names ≤ length names → take (3 * x.names) names ≡ ns
             name_front x ns rs b k =
-                let y : x ≡ r = cc in
+                let y : x ≡ facts.value = cc in
                 let z : known.0 ≡ ns = cc in
-                let n : x.names ≡ r.names = ap (λ (m : Record). m.names) y in
-                ap (λ (m : ℕ). take (3 * m) names) n ∙ v.front r known.0 at known.1 (omega (arith, n, k)) ∙ z
-
--- a refused answer has no record
-pub no_record : (a : Loaded) (refusal : Refusal) (line : ℕ) → a ≡ Refused refusal line → record { names = 0; rows = 0; local = 0; start = 0; sole = 0 } ≡ record_of a
-no_record a refusal line e = rw e
-
-pub ruleset answers = (count_most, names_head, head_filled, names_section, section_filled, names_facts, names_filled, lines_before, before_filled, few_rows, few_names, lines_rows, rows_filled, lines_extra, extra_filled, lines_done, done_filled)
+                let n : x.names ≡ facts.value.names = ap (λ (m : Record). m.names) y in
+                ap (λ (m : ℕ). take (3 * m) names) n ∙ v.front facts.value known.0 facts.next known.1 (omega (arith, n, k)) ∙ z

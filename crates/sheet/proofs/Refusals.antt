@@ -9,12 +9,10 @@ use lib.ListN.{length, get_or}
 use Rattle.refusals.specs.declared.Refusal.{Refusal}
 use Rattle.refusals.specs.declared.Refusal.TheVariants.{WrongLine}
 use Rattle.refusals.specs.Refusals.{refusal_number}
-use Rattle.lines.specs.declared.NumberLine.{NumberLine}
-use Rattle.lines.specs.declared.NumberLine.TheVariants as N
-use Rattle.lines.specs.declared.NameLine.{NameLine}
-use Rattle.lines.specs.declared.NameLine.TheVariants as M
-use Rattle.lines.specs.declared.RowLine.{RowLine}
-use Rattle.lines.specs.declared.RowLine.TheVariants as R
+use Rattle.std.specs.Prelude.{Result, Ok, Err}
+use Rattle.lines.specs.declared.Line.{Line as LineRead}
+use Rattle.lines.specs.declared.Name.{Name}
+use Rattle.lines.specs.declared.Row.{Row}
 use Rattle.lines.specs.Lines.{number_line, name_line, row_at}
 use Rattle.lines.proofs.Refusals.{number_low, name_low, row_low}
 use Rattle.sheet_record.specs.declared.Record.{Record}
@@ -56,25 +54,25 @@ unfolding number_step
 number_step_low names s [] at refusal e = let x : WrongLine ≡ refusal = cc in rw (← x) (omega arith)
 number_step_low names s (l ∷ ls) at refusal e = go (number_line l.key l.low (greatest l.high names) s at) refl e
   where
-    go : (n : NumberLine) → number_line l.key l.low (greatest l.high names) s at ≡ n → of_number ls n ≡ wrong_line refusal → refusal_number refusal ≤ 6
-    go (N.Value v next) q e = apart (cc)
-    go (N.Wrong f) q e = let x : f ≡ refusal = cc in rw (← x) (number_low l.key l.low (greatest l.high names) s at f q)
+    go : (n : Result (LineRead ℕ) Refusal) → number_line l.key l.low (greatest l.high names) s at ≡ n → of_number ls n ≡ wrong_line refusal → refusal_number refusal ≤ 6
+    go (Ok line) q e = apart (cc)
+    go (Err f) q e = let x : f ≡ refusal = cc in rw (← x) (number_low l.key l.low (greatest l.high names) s at f q)
 
 name_step_low : (s by : List ℕ) (at : ℕ) (refusal : Refusal) → name_step s by at ≡ wrong_line refusal → refusal_number refusal ≤ 6
 unfolding name_step
 name_step_low s by at refusal e = go (name_line by s at) refl e
   where
-    go : (n : NameLine) → name_line by s at ≡ n → of_name s n ≡ wrong_line refusal → refusal_number refusal ≤ 6
-    go (M.Read name next) q e = apart (cc)
-    go (M.Wrong f) q e = let x : f ≡ refusal = cc in rw (← x) (name_low by s at f q)
+    go : (n : Result (LineRead Name) Refusal) → name_line by s at ≡ n → of_name s n ≡ wrong_line refusal → refusal_number refusal ≤ 6
+    go (Ok line) q e = apart (cc)
+    go (Err f) q e = let x : f ≡ refusal = cc in rw (← x) (name_low by s at f q)
 
 row_step_low : (names : ℕ) (s : List ℕ) (by : Unit {0}) (at : ℕ) (refusal : Refusal) → row_step names s by at ≡ wrong_line refusal → refusal_number refusal ≤ 6
 unfolding row_step
 row_step_low names s by at refusal e = go (row_at names s at) refl e
   where
-    go : (n : RowLine) → row_at names s at ≡ n → of_row n ≡ wrong_line refusal → refusal_number refusal ≤ 6
-    go (R.Read row next) q e = apart (cc)
-    go (R.Wrong f) q e = let x : f ≡ refusal = cc in rw (← x) (row_low names s at f q)
+    go : (n : Result (LineRead Row) Refusal) → row_at names s at ≡ n → of_row n ≡ wrong_line refusal → refusal_number refusal ≤ 6
+    go (Ok line) q e = apart (cc)
+    go (Err f) q e = let x : f ≡ refusal = cc in rw (← x) (row_low names s at f q)
 
 -- what follows lines, where they are refused from line 1 on
 module _ {A : Type 0} (refuse : Refusal → ℕ → A) (out : A) (first : ℕ) (some : 1 ≤ first) (P : Type 0) (told : (refusal : Refusal) (line : ℕ) → refuse refusal line ≡ out → OfLines 1 refusal line → P) where

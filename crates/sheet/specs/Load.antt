@@ -1,31 +1,32 @@
 -- The whole of loading: document 01, "What the caller gets" and "The sheet". For every list of bytes and every two lengths of
 -- tables: the answer, and what both tables hold after it. Definitions only.
-use Rattle.std.specs.Prelude.{ℕ, ◌+◌, ◌-◌, ◌*◌, Bool, cond, ◌&&◌, List, ◌++◌, leb, ltb, length, get_or, replicate}
+use Rattle.std.specs.Prelude.{ℕ, ◌+◌, ◌-◌, ◌*◌, Bool, cond, ◌&&◌, List, ◌++◌, leb, ltb, length, get_or, replicate, Result, Ok, Err}
 use Rattle.refusals.specs.declared.Refusal.{Refusal}
 use Rattle.refusals.specs.declared.Refusal.TheVariants.{WrongLine, TooLong, NoRoom}
-use Rattle.refusals.specs.Refusals.{refusal_number}
-use Rattle.checks.specs.declared.Checked.{Checked}
-use Rattle.checks.specs.declared.Checked.TheVariants as C
-use Rattle.checks.specs.Checks.{children_of}
+use Rattle.refusals.specs.declared.Refused.{Refused}
+use Rattle.refusals.specs.Refusals.{refusal_number, refused_at}
+use Rattle.checks.specs.Checks.{Checked, children_of}
 use Rattle.sheet_record.specs.declared.Record.{Record}
-use Rattle.sheet.specs.declared.Loaded.{Loaded}
-use Rattle.sheet.specs.declared.Loaded.TheVariants.{Done, Refused}
 use Rattle.sheet.specs.Header.{record_by, first_row}
 use Rattle.sheet.specs.Sections.{after_lines, head_from, names_from, facts_from, rows_from}
+
+-- what loading answers: the record, or a refusal with its line
+abbrev pub Loaded : Type 0
+Loaded = Result Record Refused
 
 -- what each answer is in numbers: the refusal's number, 0 for a good load; the place, "a line number from 1 .., or 0"; and the
 -- record, zeros where it is refused
 abbrev pub refusal_of : Loaded → ℕ
-refusal_of (Done r) = 0
-refusal_of (Refused refusal line) = refusal_number refusal
+refusal_of (Ok r) = 0
+refusal_of (Err e) = refusal_number e.refusal
 
 abbrev pub place_of : Loaded → ℕ
-place_of (Done r) = 0
-place_of (Refused refusal line) = line
+place_of (Ok r) = 0
+place_of (Err e) = e.place
 
 abbrev pub record_of : Loaded → Record
-record_of (Done r) = r
-record_of (Refused refusal line) = record { names = 0; rows = 0; local = 0; start = 0; sole = 0 }
+record_of (Ok r) = r
+record_of (Err e) = record { names = 0; rows = 0; local = 0; start = 0; sole = 0 }
 
 -- what the lines before the rows tell: the record, the numbers of the names, and where the rows start; or the first refusal,
 -- and its line
@@ -62,14 +63,14 @@ lines_of s =
     (λ rows at. cond (ltb at (length s)) (wrong WrongLine (line_of r r.rows)) (parsed r names rows)))
 
 -- what a load gives: the answer, and what both tables hold
-pub record Result : Type 0 where
+pub record Loading : Type 0 where
   pub answer : Loaded
   pub rows : List ℕ
   pub names : List ℕ
 
 -- "A refused load .. leave[s] zeros"
-unfoldable pub refuse : ℕ → ℕ → Refusal → ℕ → Result
-refuse row_room name_room refusal line = record { answer = Refused refusal line; rows = replicate row_room 0; names = replicate name_room 0 }
+unfoldable pub refuse : ℕ → ℕ → Refusal → ℕ → Loading
+refuse row_room name_room refusal line = record { answer = refused_at refusal line; rows = replicate row_room 0; names = replicate name_room 0 }
 
 -- "and the unused tail after a good one": a table with so much room, and these numbers in front
 unfoldable pub table_of : ℕ → List ℕ → List ℕ
@@ -81,29 +82,29 @@ has_room row_room name_room r = leb (5 * r.rows) row_room && leb (3 * r.names) n
 
 -- "7 and 8 in row order, 7 before 8; then 9 in row order", each at the line of its row
 abbrev pub after_checks : Checked → Record → Loaded
-after_checks C.Passed r = Done r
-after_checks (C.Refused refusal row) r = Refused refusal (line_of r row)
+after_checks (Ok u) r = Ok r
+after_checks (Err e) r = refused_at e.refusal (line_of r e.place)
 
 -- the answer for lines that were read into tables with room
 unfoldable pub checked_answer : Record → List ℕ → Loaded
 checked_answer r rows = after_checks (children_of rows r.rows) r
 
 -- an answer with its tables: these after a good load, zeros after a refused one
-abbrev pub with_tables : ℕ → ℕ → Loaded → List ℕ → List ℕ → Result
-with_tables row_room name_room (Done r) rows names = record { answer = Done r; rows = rows; names = names }
-with_tables row_room name_room (Refused refusal line) rows names = refuse row_room name_room refusal line
+abbrev pub with_tables : ℕ → ℕ → Loaded → List ℕ → List ℕ → Loading
+with_tables row_room name_room (Ok r) rows names = record { answer = Ok r; rows = rows; names = names }
+with_tables row_room name_room (Err e) rows names = refuse row_room name_room e.refusal e.place
 
 -- what follows good lines: 21, then the checks
-unfoldable pub finish_of : ℕ → ℕ → Record → List ℕ → List ℕ → Result
+unfoldable pub finish_of : ℕ → ℕ → Record → List ℕ → List ℕ → Loading
 finish_of row_room name_room r name_numbers row_numbers =
     cond (has_room row_room name_room r)
     (with_tables row_room name_room (checked_answer r (table_of row_room row_numbers)) (table_of row_room row_numbers) (table_of name_room name_numbers))
     (refuse row_room name_room NoRoom 0)
 
-abbrev pub after_parse : ℕ → ℕ → Parsed → Result
+abbrev pub after_parse : ℕ → ℕ → Parsed → Loading
 after_parse row_room name_room (wrong refusal line) = refuse row_room name_room refusal line
 after_parse row_room name_room (parsed r name_numbers row_numbers) = finish_of row_room name_room r name_numbers row_numbers
 
 -- "Order: 10; then 1 to 6, first line first, lowest number on one line; 21; then 7 and 8 in row order, 7 before 8; then 9 in row order"
-unfoldable pub load_of : List ℕ → ℕ → ℕ → Result
+unfoldable pub load_of : List ℕ → ℕ → ℕ → Loading
 load_of s row_room name_room = cond (leb (length s) 65536) (after_parse row_room name_room (lines_of s)) (refuse row_room name_room TooLong 0)

@@ -1,16 +1,11 @@
 -- The sheet's lines, section by section: document 01, "Order: `sheet=1`, `names=`, that many `name=`, `local=`, `start=`, `sole=`, `rows=`, that many
 -- `row=`", with "1 to 6, first line first". By place and count: a line is read where the one before it ended. Definitions only.
-use Rattle.std.specs.Prelude.{ℕ, zero, suc, ◌+◌, List, [], ◌∷◌, ◌++◌, length, take, drop}
+use Rattle.std.specs.Prelude.{ℕ, zero, suc, ◌+◌, List, [], ◌∷◌, ◌++◌, length, take, drop, Result, Ok, Err}
 use Rattle.refusals.specs.declared.Refusal.{Refusal}
 use Rattle.refusals.specs.declared.Refusal.TheVariants.{WrongLine}
-use Rattle.lines.specs.declared.NumberLine.{NumberLine}
-use Rattle.lines.specs.declared.NumberLine.TheVariants as N
+use Rattle.lines.specs.declared.Line.{Line as LineRead}
 use Rattle.lines.specs.declared.Name.{Name}
-use Rattle.lines.specs.declared.NameLine.{NameLine}
-use Rattle.lines.specs.declared.NameLine.TheVariants as M
 use Rattle.lines.specs.declared.Row.{Row}
-use Rattle.lines.specs.declared.RowLine.{RowLine}
-use Rattle.lines.specs.declared.RowLine.TheVariants as R
 use Rattle.lines.specs.Lines.{number_line, name_line, row_at}
 use Rattle.sheet.specs.Header.{HeaderLine, greatest, head_lines, fact_lines, first_name, first_fact, first_row}
 
@@ -44,9 +39,9 @@ after_lines refuse (read numbers next) more = more numbers next
 after_lines refuse (refused refusal line) more = refuse refusal line
 
 -- a line with one number goes by the list of those still to come
-abbrev pub of_number : List HeaderLine → NumberLine → Line (List HeaderLine)
-of_number others (N.Value value next) = right_line (value ∷ []) others next
-of_number others (N.Wrong refusal) = wrong_line refusal
+abbrev pub of_number : List HeaderLine → Result (LineRead ℕ) Refusal → Line (List HeaderLine)
+of_number others (Ok l) = right_line (l.value ∷ []) others l.next
+of_number others (Err refusal) = wrong_line refusal
 
 unfoldable pub number_step : ℕ → List ℕ → List HeaderLine → ℕ → Line (List HeaderLine)
 number_step names s [] at = wrong_line WrongLine
@@ -68,9 +63,9 @@ name_numbers name = name.offset ∷ name.length ∷ name.mark ∷ []
 abbrev pub name_text : List ℕ → Name → List ℕ
 name_text s name = take name.length (drop name.offset s)
 
-abbrev pub of_name : List ℕ → NameLine → Line (List ℕ)
-of_name s (M.Read name next) = right_line (name_numbers name) (name_text s name) next
-of_name s (M.Wrong refusal) = wrong_line refusal
+abbrev pub of_name : List ℕ → Result (LineRead Name) Refusal → Line (List ℕ)
+of_name s (Ok l) = right_line (name_numbers l.value) (name_text s l.value) l.next
+of_name s (Err refusal) = wrong_line refusal
 
 -- a name goes by the text of the one before it
 unfoldable pub name_step : List ℕ → List ℕ → ℕ → Line (List ℕ)
@@ -83,9 +78,9 @@ names_from count s at = lines_from (name_step s) count [] at first_name
 abbrev pub row_numbers : Row → List ℕ
 row_numbers row = row.kind ∷ row.side ∷ row.lo ∷ row.hi ∷ row.end ∷ []
 
-abbrev pub of_row : RowLine → Line (Unit {0})
-of_row (R.Read row next) = right_line (row_numbers row) tt next
-of_row (R.Wrong refusal) = wrong_line refusal
+abbrev pub of_row : Result (LineRead Row) Refusal → Line (Unit {0})
+of_row (Ok l) = right_line (row_numbers l.value) tt l.next
+of_row (Err refusal) = wrong_line refusal
 
 -- a row goes by nothing but the count of names
 unfoldable pub row_step : ℕ → List ℕ → Unit {0} → ℕ → Line (Unit {0})

@@ -1,63 +1,53 @@
 -- What the code keeps of a line of the header, what it answers on its way, and what it leaves in the tables.
-use Rattle.std.specs.Prelude.{ℕ, ◌+◌, ◌-◌, ◌*◌, ◌≤◌, ◌<◌, ◌≡◌, Bool, true, false, cond, List, ◌++◌, leb, length, take, drop, get_or, replicate}
+use Rattle.std.specs.Prelude.{ℕ, ◌+◌, ◌*◌, ◌≤◌, ◌<◌, ◌≡◌, cond, List, [], ◌∷◌, leb, length, take, get_or, Result, Ok, Err}
 use Rattle.writing.specs.Putting.{put}
-use Rattle.lines.specs.declared.NumberLine.{NumberLine}
-use Rattle.lines.specs.Lines.{number_line}
-use Rattle.checks.specs.declared.Checked.TheVariants as C
-use Rattle.checks.specs.Checks.{fields_of}
+use Rattle.lines.specs.declared.Line.{Line}
+use Rattle.checks.specs.Checks.{passed, fields_of}
 use Rattle.sheet_record.specs.declared.Record.{Record}
-use Rattle.sheet.specs.declared.Loaded.{Loaded}
-use Rattle.sheet.specs.declared.Loaded.TheVariants.{Done, Refused}
+use Rattle.refusals.specs.declared.Refusal.{Refusal}
+use Rattle.refusals.specs.declared.Refused.{Refused}
+use Rattle.refusals.specs.Refusals.{refused_at}
 use Rattle.sheet.specs.declared.header.KeyLine.{KeyLine}
-use Rattle.sheet.specs.declared.header.Head.{Head}
-use Rattle.sheet.specs.declared.header.Head.TheVariants as H
-use Rattle.sheet.specs.declared.header.Facts.{Facts}
-use Rattle.sheet.specs.declared.header.Facts.TheVariants as F
-use Rattle.sheet.specs.declared.sections.Section.{Section}
-use Rattle.sheet.specs.declared.sections.Section.TheVariants as S
-use Rattle.sheet.specs.Header.{Greatest, at_most, below_the_names, greatest, HeaderLine, head_lines, fact_lines, record_by}
+use Rattle.sheet.specs.declared.header.Limit.{Limit}
+use Rattle.sheet.specs.declared.header.Limit.TheVariants.{AtMost, BelowNames}
+use Rattle.sheet.specs.Header.{Greatest, at_most, below_the_names, HeaderLine, record_by}
 use Rattle.sheet.specs.Sections.{Lines, read, refused}
-use Rattle.sheet.specs.Load.{Before, before, stopped, before_rows, Parsed, parsed, wrong, lines_of, Result, finish_of}
+use Rattle.sheet.specs.Load.{Loaded, Before, before, stopped, before_rows, Parsed, parsed, wrong, lines_of, Loading, finish_of}
 
--- a line of the header as the code has it: the key in front of six bytes, and its greatest number or that it is below names
-abbrev pub given_greatest : Greatest → ℕ
-given_greatest (at_most n) = n
-given_greatest below_the_names = 0
+-- the greatest number of a line, as the code has it
+abbrev pub limit_of : Limit → Greatest
+limit_of (AtMost n) = at_most n
+limit_of BelowNames = below_the_names
 
-abbrev pub is_below_names : Greatest → Bool
-is_below_names (at_most n) = false
-is_below_names below_the_names = true
+-- a table of lines whose keys have bytes
+pub record KeysHeld (ks : List KeyLine) : Type 0 where
+  pub some : (i : ℕ) (d : KeyLine) → i < length ks → 0 < length (get_or ks i d).key.now
 
-unfoldable pub key_line : HeaderLine → KeyLine
-key_line l = record {
-  key = l.key ++ replicate (6 - length l.key) 0;
-  size = length l.key;
-  low = l.low;
-  high = given_greatest l.high;
-  below_names = is_below_names l.high;
-}
+-- a line of the header as the code has it
+pub record KeyOf (k : KeyLine) (l : HeaderLine) : Type 0 where
+  pub key : k.key.now ≡ l.key
+  pub low : k.low ≡ l.low
+  pub high : limit_of k.high ≡ l.high
 
--- a line whose key has bytes, and is held
-pub record KeyHeld (line : KeyLine) : Type 0 where
-  pub some : 0 < line.size
-  pub room : line.size ≤ length line.key
+-- a table of such lines, one for one
+pub data Keys : List KeyLine → List HeaderLine → Type 0 where
+  no_key : Keys [] []
+  one_key : {k : KeyLine} {ks : List KeyLine} {l : HeaderLine} {ls : List HeaderLine} → KeyOf k l → Keys ks ls → Keys (k ∷ ks) (l ∷ ls)
 
--- its greatest number, with so many names
-unfoldable pub greatest_by : KeyLine → ℕ → ℕ
-greatest_by line names = cond line.below_names (names - 1) line.high
+-- what is read on a line, or the line's refusal with its number
+abbrev pub at_line : {A : Type 0} → ℕ → Result A Refusal → Result A Refused
+at_line line (Ok x) = Ok x
+at_line line (Err refusal) = refused_at refusal line
 
--- what `key_line` tells: the number on a line, by the line that the code has
-pub record KeyRead (line : KeyLine) (names : ℕ) (s : List ℕ) (at : ℕ) (r : NumberLine) : Type 0 where
-  pub told : (l : HeaderLine) → line ≡ key_line l → r ≡ number_line l.key l.low (greatest l.high names) s at
-
--- the lines of the header from one of them on
-abbrev pub header_from : ℕ → List HeaderLine
-header_from first = drop first (head_lines ++ fact_lines)
+-- what the code answers of lines that hold one number each
+abbrev pub numbers_of : Lines → Result (Line (List ℕ)) Refused
+numbers_of (read numbers next) = Ok (record { value = numbers; next = next })
+numbers_of (refused refusal line) = refused_at refusal line
 
 -- what the code answers of lines: all but their numbers
-abbrev pub section_of : Lines → Section
-section_of (read numbers next) = S.Read next
-section_of (refused refusal line) = S.Refused refusal line
+abbrev pub section_of : Lines → Result ℕ Refused
+section_of (read numbers next) = Ok next
+section_of (refused refusal line) = refused_at refusal line
 
 -- what a section leaves in its table, which had room for it: its numbers in front. If it is refused, or has no room, the
 -- caller clears the table, and nothing is said of it.
@@ -73,27 +63,23 @@ pub record Short (s : List ℕ) : Type 0 where
   pub bytes : length s ≤ 65536
 
 -- what the code answers of the lines before the names: their count
-abbrev pub head_of : Lines → Head
-head_of (read numbers next) = H.Read (get_or numbers 1 0) next
-head_of (refused refusal line) = H.Refused refusal line
+abbrev pub head_of : Lines → Result (Line ℕ) Refused
+head_of (read numbers next) = Ok (record { value = get_or numbers 1 0; next = next })
+head_of (refused refusal line) = refused_at refusal line
 
 -- of the lines after the names: the record
-abbrev pub facts_of : ℕ → Lines → Facts
-facts_of names (read numbers next) = F.Read (record_by names numbers) next
-facts_of names (refused refusal line) = F.Refused refusal line
+abbrev pub facts_of : ℕ → Lines → Result (Line Record) Refused
+facts_of names (read numbers next) = Ok (record { value = record_by names numbers; next = next })
+facts_of names (refused refusal line) = refused_at refusal line
 
 -- of all lines before the rows: all but the numbers of the names
-abbrev pub before_of : Before → Facts
-before_of (before r numbers next) = F.Read r next
-before_of (stopped refusal line) = F.Refused refusal line
+abbrev pub before_of : Before → Result (Line Record) Refused
+before_of (before r numbers next) = Ok (record { value = r; next = next })
+before_of (stopped refusal line) = refused_at refusal line
 
 abbrev pub answer_of : Parsed → Loaded
-answer_of (parsed r names rows) = Done r
-answer_of (wrong refusal line) = Refused refusal line
-
-abbrev pub is_refused : Loaded → Bool
-is_refused (Done r) = false
-is_refused (Refused refusal line) = true
+answer_of (parsed r names rows) = Ok r
+answer_of (wrong refusal line) = refused_at refusal line
 
 -- the numbers stand in front of a table that has room for them
 pub record NamesFilled (s table : List ℕ) : Type 0 where
@@ -116,13 +102,13 @@ pub record Room (r : Record) (rows names : List ℕ) : Type 0 where
 -- a table whose rows, if it has room for them, were read from lines: in every table that has them in front the fields pass
 pub record FieldsRead (r : Record) (rows : List ℕ) : Type 0 where
   pub pass : 5 * r.rows ≤ length rows → (table : List ℕ) → 5 * r.rows ≤ length table → take (5 * r.rows) table ≡ take (5 * r.rows) rows
-      → fields_of table r.rows r.names ≡ C.Passed
+      → fields_of table r.rows r.names ≡ passed
 
 -- what follows good lines whose numbers stand in front of the tables
-unfoldable pub finish_fronts : Record → List ℕ → List ℕ → Result
+unfoldable pub finish_fronts : Record → List ℕ → List ℕ → Loading
 finish_fronts r rows names = finish_of (length rows) (length names) r (take (3 * r.names) names) (take (5 * r.rows) rows)
 
 -- the tables of a good load, which the code has filled; those of a refused one it clears after
-pub record GoodFilled (answer : Loaded) (result : Result) (rows names : List ℕ) : Type 0 where
-  pub row_table : (r : Record) → answer ≡ Done r → rows ≡ result.rows
-  pub name_table : (r : Record) → answer ≡ Done r → names ≡ result.names
+pub record GoodFilled (answer : Loaded) (result : Loading) (rows names : List ℕ) : Type 0 where
+  pub row_table : (r : Record) → answer ≡ Ok r → rows ≡ result.rows
+  pub name_table : (r : Record) → answer ≡ Ok r → names ≡ result.names

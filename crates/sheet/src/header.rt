@@ -1,185 +1,141 @@
-// The lines of a sheet that hold one number each: two before the names, four after them. What they are stands in one table, from which
+// The lines of a sheet that hold one number each: two before the names, four after them. What they are stands in two tables, from which
 // they are read.
-ghost use Rattle.std.specs.Prelude.{◌≡◌, ◌++◌, map, ◌+◌, ◌≤◌, length};
-ghost use Rattle.sheet.specs.Header.{head_lines, fact_lines};
+ghost use Rattle.std.specs.Prelude.{◌≡◌, ◌≤◌, List, length};
+ghost use Rattle.sheet.specs.Header.{HeaderLine, greatest, head_lines, fact_lines};
 ghost use Rattle.sheet.specs.Sections.{lines_from, number_step, head_from, facts_from};
-ghost use Rattle.sheet.specs.Steps.{key_line, KeyHeld, greatest_by, KeyRead, header_from, section_of, Filled, head_of, facts_of};
+ghost use Rattle.sheet.specs.Steps.{limit_of, KeysHeld, Keys, numbers_of, head_of, facts_of};
 
-use super::sections::Section;
-use lines::NumberLine;
-use refusals::Refusal;
+use super::at_line;
+use lines::Line;
+use refusals::Refused;
 use sheet_record::Record;
 
-// The key of a line, in front of six bytes, how many bytes it has, and the least and the greatest number that the line may hold, which is the
-// greatest below the count of names where that is said.
+// The greatest number that a line may hold: one that is given, or the greatest below the count of names.
+#[derive(Clone, Copy)]
+enum Limit {
+    AtMost(usize),
+    BelowNames,
+}
+
+impl Limit {
+    fn among(self, names: usize) -> usize
+        ensures { result ≡ greatest (limit_of self) names }
+    {
+        match self {
+            Limit::AtMost(n) => n,
+            Limit::BelowNames => names.saturating_sub(1),
+        }
+    }
+}
+
+// A line's key, and the least and the greatest number that it may hold.
 #[derive(Clone, Copy)]
 struct KeyLine {
-    key: [u8; 6],
-    size: usize,
+    key: &'static [u8],
     low: usize,
-    high: usize,
-    below_names: bool,
-}
-
-// The count of names, and where they start; or the first refusal, and its line.
-#[derive(Clone, Copy)]
-pub enum Head {
-    Read(usize, usize),
-    Refused(Refusal, usize),
-}
-
-// The record, and where the rows start; or the first refusal, and its line.
-#[derive(Clone, Copy)]
-pub enum Facts {
-    Read(Record, usize),
-    Refused(Refusal, usize),
+    high: Limit,
 }
 
 // The lines before the names, the line of the first name, and the lines between names and rows.
-pub const HEAD_LINES: usize = 2;
+const HEAD_LINES: usize = 2;
 
 pub const FIRST_NAME: usize = HEAD_LINES + 1;
 
 pub const FACT_LINES: usize = 4;
 
-const HEADER: [KeyLine; HEAD_LINES + FACT_LINES] = [
+const HEAD: [KeyLine; HEAD_LINES] = [
     KeyLine {
-        key: [b's', b'h', b'e', b'e', b't', b'='],
-        size: 6,
+        key: b"sheet=",
         low: 1,
-        high: 1,
-        below_names: false,
+        high: Limit::AtMost(1),
     },
     KeyLine {
-        key: [b'n', b'a', b'm', b'e', b's', b'='],
-        size: 6,
+        key: b"names=",
         low: 1,
-        high: 500,
-        below_names: false,
-    },
-    KeyLine {
-        key: [b'l', b'o', b'c', b'a', b'l', b'='],
-        size: 6,
-        low: 0,
-        high: 0,
-        below_names: true,
-    },
-    KeyLine {
-        key: [b's', b't', b'a', b'r', b't', b'='],
-        size: 6,
-        low: 0,
-        high: 1,
-        below_names: false,
-    },
-    KeyLine {
-        key: [b's', b'o', b'l', b'e', b'=', 0],
-        size: 5,
-        low: 0,
-        high: 1,
-        below_names: false,
-    },
-    KeyLine {
-        key: [b'r', b'o', b'w', b's', b'=', 0],
-        size: 5,
-        low: 1,
-        high: 2000,
-        below_names: false,
+        high: Limit::AtMost(500),
     },
 ];
 
-fn header_lines() -> [KeyLine; HEAD_LINES + FACT_LINES]
-    ensures { result ≡ map key_line (head_lines ++ fact_lines) }
-{
-    HEADER
-}
+const FACTS: [KeyLine; FACT_LINES] = [
+    KeyLine {
+        key: b"local=",
+        low: 0,
+        high: Limit::BelowNames,
+    },
+    KeyLine {
+        key: b"start=",
+        low: 0,
+        high: Limit::AtMost(1),
+    },
+    KeyLine {
+        key: b"sole=",
+        low: 0,
+        high: Limit::AtMost(1),
+    },
+    KeyLine {
+        key: b"rows=",
+        low: 1,
+        high: Limit::AtMost(2000),
+    },
+];
 
-// The greatest number that a line may hold, with so many names.
-fn greatest_of(line: KeyLine, names: usize) -> usize
-    ensures { result ≡ greatest_by line names }
-{
-    if !line.below_names {
-        return line.high;
-    }
-    if names == 0 {
-        return 0;
-    }
-    names - 1
-}
-
-// The number on a line of the header, with so many names.
-fn key_line(s: &[u8], at: usize, line: KeyLine, names: usize) -> NumberLine
-    requires { KeyHeld line }
-    ensures { KeyRead line names s.now at result }
-{
-    let key = line.key;
-    let size = line.size;
-    let high = greatest_of(line, names);
-    lines::number_line(s, at, &key[0..size], line.low, high)
-}
-
-// So many lines of the header as there is room for their numbers, from the one that is `first` in the table on; the first of them is line
-// `line` of the sheet.
-fn numbers_from(
+// The numbers on the lines of a table, with so many names, and where the line after them starts. The first of them is line `first` of the
+// sheet.
+fn numbers_from<const N: usize>(
     s: &[u8],
     from: usize,
-    first: usize,
+    header: &[KeyLine],
     names: usize,
-    line: usize,
-    numbers: &mut [usize],
-) -> Section
-    requires { (first + length numbers.old ≤ 6) × (line ≤ 2500) }
-    ensures value { result ≡ section_of (lines_from (number_step names s.now) (length numbers.old) (header_from first) from line) }
-    ensures filled { Filled 1 (length numbers.old) (lines_from (number_step names s.now) (length numbers.old) (header_from first) from line) numbers.new }
+    first: usize,
+) -> Result<Line<[usize; N]>, Refused>
+    requires keys { KeysHeld header.now }
+    requires sizes { (length header.now ≡ N) × (first ≤ 2500) }
+    ensures { (told : List HeaderLine) → Keys header.now told → result ≡ numbers_of (lines_from (number_step names s.now) (length told) told from first) }
 {
-    let header = header_lines();
+    let mut numbers = [0; N];
     let mut at = from;
-    let mut i = 0;
-    while i < numbers.len() {
-        let read = key_line(s, at, header[first + i], names);
-        match read {
-            NumberLine::Wrong(refusal) => {
-                return Section::Refused(refusal, line + i);
-            }
-            NumberLine::Value(value, next) => {
-                numbers[i] = value;
-                at = next;
-            }
-        }
-        i += 1;
+    for (i, line) in header.iter().enumerate() {
+        let high = line.high.among(names);
+        let read = at_line(
+            first + i,
+            lines::number_line(s, at, line.key, line.low, high),
+        )?;
+        numbers[i] = read.value;
+        at = read.next;
     }
-    Section::Read(at)
+    Ok(Line {
+        value: numbers,
+        next: at,
+    })
 }
 
-// The two lines before the names.
-pub fn head_of(s: &[u8]) -> Head
+// The two lines before the names: the count of names, and where they start.
+pub fn head_of(s: &[u8]) -> Result<Line<usize>, Refused>
     ensures { result ≡ head_of (head_from s.now) }
 {
-    let mut head = [0usize; HEAD_LINES];
-    let read = numbers_from(s, 0, 0, 0, 1, &mut head);
-    match read {
-        Section::Refused(refusal, line) => Head::Refused(refusal, line),
-        Section::Read(next) => Head::Read(head[1], next),
-    }
+    let head = numbers_from::<HEAD_LINES>(s, 0, &HEAD, 0, 1)?;
+    let [_, names] = head.value;
+    Ok(Line {
+        value: names,
+        next: head.next,
+    })
 }
 
-// The four lines after the names.
-pub fn facts_from(s: &[u8], at: usize, names: usize) -> Facts
+// The four lines after the names: the record, and where the rows start.
+pub fn facts_from(s: &[u8], at: usize, names: usize) -> Result<Line<Record>, Refused>
     requires { names ≤ 500 }
     ensures { result ≡ facts_of names (facts_from names s.now at) }
 {
-    let mut facts = [0usize; FACT_LINES];
-    let read = numbers_from(s, at, HEAD_LINES, names, FIRST_NAME + names, &mut facts);
-    match read {
-        Section::Refused(refusal, line) => Facts::Refused(refusal, line),
-        Section::Read(next) => Facts::Read(
-            Record {
-                names: names,
-                rows: facts[3],
-                local: facts[0],
-                start: facts[1],
-                sole: facts[2],
-            },
-            next,
-        ),
-    }
+    let facts = numbers_from::<FACT_LINES>(s, at, &FACTS, names, FIRST_NAME + names)?;
+    let [local, start, sole, rows] = facts.value;
+    Ok(Line {
+        value: Record {
+            names,
+            rows,
+            local,
+            start,
+            sole,
+        },
+        next: facts.next,
+    })
 }

@@ -3,30 +3,25 @@
 
 ghost use Rattle.std.specs.Prelude.{◌≡◌, ◌≤◌};
 ghost use Rattle.sheet.specs.Load.{refusal_of, place_of, record_of, before_rows, line_of, lines_of};
-ghost use Rattle.sheet.specs.Steps.{Short, before_of, answer_of, NamesFilled, BothFilled};
+ghost use Rattle.sheet.specs.Steps.{at_line, Short, before_of, answer_of, NamesFilled, BothFilled};
 
-use header::{Facts, Head};
-use refusals::Refusal;
-use sections::Section;
+use lines::Line;
+use refusals::{Refusal, Refused};
 use sheet_record::Record;
 
 mod header; // header.rt: the lines that hold one number each
 mod sections; // sections.rt: the lines of names and of rows
 
 // The record, or a refusal with its line.
-#[derive(Clone, Copy)]
-pub enum Loaded {
-    Done(Record),
-    Refused(Refusal, usize),
-}
+pub type Loaded = Result<Record, Refused>;
 
 // Document 01's number of an answer's refusal, 0 where it has none.
 pub fn refusal_of(loaded: Loaded) -> usize
     ensures { result ≡ refusal_of loaded }
 {
     match loaded {
-        Loaded::Done(record) => 0,
-        Loaded::Refused(refusal, line) => refusals::number_of(refusal),
+        Ok(_) => 0,
+        Err(refused) => refusals::number_of(refused.refusal),
     }
 }
 
@@ -35,8 +30,8 @@ pub fn place_of(loaded: Loaded) -> usize
     ensures { result ≡ place_of loaded }
 {
     match loaded {
-        Loaded::Done(record) => 0,
-        Loaded::Refused(refusal, line) => line,
+        Ok(_) => 0,
+        Err(refused) => refused.place,
     }
 }
 
@@ -44,35 +39,28 @@ pub fn place_of(loaded: Loaded) -> usize
 pub fn record_of(loaded: Loaded) -> Record
     ensures { result ≡ record_of loaded }
 {
-    match loaded {
-        Loaded::Done(record) => record,
-        Loaded::Refused(refusal, line) => Record {
-            names: 0,
-            rows: 0,
-            local: 0,
-            start: 0,
-            sole: 0,
-        },
-    }
+    loaded.unwrap_or_default()
+}
+
+// What is read on a line, or the line's refusal with its number.
+fn at_line<T>(line: usize, read: Result<T, Refusal>) -> Result<T, Refused>
+    ensures { result ≡ at_line line read }
+{
+    read.map_err(|refusal| Refused {
+        refusal,
+        place: line,
+    })
 }
 
 // The lines before the rows.
-fn read_names(s: &[u8], names: &mut [u32]) -> Facts
+fn read_names(s: &[u8], names: &mut [u32]) -> Result<Line<Record>, Refused>
     requires { Short s.now }
     ensures value { result ≡ before_of (before_rows s.now) }
     ensures filled { NamesFilled s.now names.new }
 {
-    let first = header::head_of(s);
-    match first {
-        Head::Refused(refusal, line) => Facts::Refused(refusal, line),
-        Head::Read(count, at) => {
-            let section = sections::names_from(s, at, count, names);
-            match section {
-                Section::Refused(refusal, line) => Facts::Refused(refusal, line),
-                Section::Read(next) => header::facts_from(s, next, count),
-            }
-        }
-    }
+    let head = header::head_of(s)?;
+    let next = sections::names_from(s, head.next, head.value, names)?;
+    header::facts_from(s, next, head.value)
 }
 
 // The line on which a row stands.
@@ -89,20 +77,14 @@ pub fn read_lines(s: &[u8], rows: &mut [u32], names: &mut [u32]) -> Loaded
     ensures value { result ≡ answer_of (lines_of s.now) }
     ensures filled { BothFilled s.now rows.new names.new }
 {
-    let read = read_names(s, names);
-    match read {
-        Facts::Refused(refusal, line) => Loaded::Refused(refusal, line),
-        Facts::Read(record, at) => {
-            let section = sections::rows_from(s, at, record.rows, record.names, rows);
-            match section {
-                Section::Refused(refusal, line) => Loaded::Refused(refusal, line),
-                Section::Read(end) => {
-                    if end < s.len() {
-                        return Loaded::Refused(Refusal::WrongLine, line_of(record, record.rows));
-                    }
-                    Loaded::Done(record)
-                }
-            }
-        }
+    let facts = read_names(s, names)?;
+    let record = facts.value;
+    let end = sections::rows_from(s, facts.next, record.rows, record.names, rows)?;
+    if end < s.len() {
+        return Err(Refused {
+            refusal: Refusal::WrongLine,
+            place: line_of(record, record.rows),
+        });
     }
+    Ok(record)
 }

@@ -17,9 +17,8 @@ use Rattle.effect_rules.specs.Rules.{writes_when}
 use Rattle.expr_effect.specs.Law.{EffectLaw, WhenLaw, ExprFacts, NoneRefer, none_left, and_more, ExprLaw}
 use Rattle.stmt_paths.specs.Execution.{unmet}
 use Rattle.da.specs.declared.DaGiveUp.{DaGiveUp}
-use Rattle.da.specs.declared.DaResult.{DaResult}
-use Rattle.da.specs.declared.DaResult.TheVariants.{Err}
-use Rattle.da.specs.Outcome.{State, is_written, gains}
+use Rattle.std.specs.Prelude.{Err}
+use Rattle.da.specs.Outcome.{DaResult, State, is_written, gains}
 use Rattle.da.specs.Walk.{is_reads, is_writes, expr_reads, expr_out_writes, unless_read, unless_one_read, evaluated, gains_when}
 use Rattle.soundness.proofs.Known.{known, known_all, known_gained, gains_nothing}
 use Rattle.soundness.proofs.Sound.{unless}

@@ -18,9 +18,8 @@ use Rattle.stmt_paths.specs.Execution.{Execution, all_labels, chosen_arm}
 use Rattle.da.specs.declared.DaOut.{DaOut}
 use Rattle.da.specs.declared.DaOut.TheVariants.{Falls, Jumps}
 use Rattle.da.specs.declared.DaGiveUp.{DaGiveUp}
-use Rattle.da.specs.declared.DaResult.{DaResult}
-use Rattle.da.specs.declared.DaResult.TheVariants.{Ok, Err}
-use Rattle.da.specs.Outcome.{State, is_written, merge, ◌▷◌}
+use Rattle.std.specs.Prelude.{Ok, Err}
+use Rattle.da.specs.Outcome.{DaResult, State, is_written, merge, ◌▷◌}
 use Rattle.da.specs.Walk.{Walk, arms}
 use Rattle.soundness.proofs.Known.{known}
 use Rattle.soundness.proofs.Asking.{unless_one_read_lem}

@@ -18,9 +18,8 @@ use Rattle.stmt_paths.specs.Premises.{nowhere, first_failing, Premises}
 use Rattle.stmt_paths.proofs.PremiseTest.{all_hold, premises_iff, premises_nonblocking}
 use Rattle.stmt_paths.proofs.WithinFree.{row_among_free}
 use Rattle.da.specs.declared.DaOut.TheVariants.{Falls, Jumps}
-use Rattle.da.specs.declared.DaResult.{DaResult}
-use Rattle.da.specs.declared.DaResult.TheVariants.{Ok}
-use Rattle.da.specs.Outcome.{State, unwritten, written, Accepted}
+use Rattle.std.specs.Prelude.{Ok}
+use Rattle.da.specs.Outcome.{DaResult, State, unwritten, written, Accepted}
 use Rattle.da.specs.Walk.{DaCtx, da_ctx, no_walk, da_stmt}
 use Rattle.soundness.specs.Demand3.{OrderPremise, FallsWritten, NeverFalls, Demand3, Demand3FromIff, WalkMeans}
 use Rattle.soundness.proofs.Known.{known, known_unwritten, known_written}

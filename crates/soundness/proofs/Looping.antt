@@ -13,9 +13,8 @@ use Rattle.paths.proofs.Rules.{less, nowhere, full_any, weaken, still, rule_seq,
 use Rattle.stmt_paths.specs.Execution.{round, loop}
 use Rattle.loops.proofs.Staying.{NeverJumps}
 use Rattle.da.specs.declared.DaOut.TheVariants.{Falls}
-use Rattle.da.specs.declared.DaResult.{DaResult}
-use Rattle.da.specs.declared.DaResult.TheVariants.{Ok}
-use Rattle.da.specs.Outcome.{State, gains, ◌▷◌}
+use Rattle.std.specs.Prelude.{Ok}
+use Rattle.da.specs.Outcome.{DaResult, State, gains, ◌▷◌}
 use Rattle.da.specs.Walk.{StmtRow, falls_written, loop_body_assigns}
 use Rattle.soundness.proofs.Known.{known, known_all, known_gained, gains_nothing}
 use Rattle.soundness.proofs.Sound.{Sound, sound_falls, sound_jumps, sound_stop, loose, sound_kept}

@@ -27,7 +27,7 @@ use Rattle.expr_effect.specs.Law.{facts_at}
 use Rattle.loops.specs.Escape.{cannot_escape_at}
 use Rattle.loops.specs.Time.{waiting_words, is_one_of, lets_time_pass, advances_at}
 use Rattle.da.specs.declared.DaOut.TheVariants.{Falls}
-use Rattle.da.specs.declared.DaResult.TheVariants.{Ok}
+use Rattle.std.specs.Prelude.{Ok}
 use Rattle.da.specs.Outcome.{unwritten}
 use Rattle.da.specs.Walk.{da_ctx, held_facts_at, walk_at, da_stmt}
 

@@ -36,10 +36,11 @@ use Rattle.stmt_paths.proofs.Conditions.{unmet_so}
 use Rattle.stmt_paths.proofs.UnderOrder.{Target, target_keeps, right_keeps, assignment_so, Others, nonblocking_so}
 use Rattle.loops.proofs.Staying.{NeverJumps, stay, stay_at}
 use Rattle.da.specs.declared.DaOut.TheVariants.{Falls, Jumps}
-use Rattle.da.specs.declared.DaResult.{DaResult}
-use Rattle.da.specs.declared.DaResult.TheVariants.{Ok}
+use Rattle.std.specs.Prelude.{Ok}
 use Rattle.da.specs.declared.CallEffect.TheVariants.{Inert, Writes as CallWrites, Reads as CallReads, Unknown}
-use Rattle.da.specs.Outcome.{State, written, is_written, gains, merge, ◌▷◌, give_up}
+use Rattle.da.specs.declared.Reason.{Reason}
+use Rattle.da.specs.declared.Reason.TheVariants.{Forks, TaskReads, TaskUnknown, NotModelled}
+use Rattle.da.specs.Outcome.{DaResult, State, written, is_written, gains, merge, ◌▷◌, give_up}
 use Rattle.da.specs.Walk.{DaCtx, Walk, StmtRow, expr_out_writes, gains_when, stmt, no_walk, assigned, blocking, block, else_from, if_else, arms, case_of, rounds, while_true, task, referring, walk_of, held_facts_at, held_facts, stmt_row, walk_at, walks}
 use Rattle.soundness.specs.Demand3.{OrderPremise}
 use Rattle.soundness.proofs.Known.{known, known_written, known_all, known_gains, known_gained, gains_nothing}
@@ -62,7 +63,7 @@ block_so no_pair a = sound_falls rule_skip
 block_so (pair {xs = ws} l ls) a = sound_next (block ws) (l.sound a) (block_so ls)
 
 -- the local is asked to be written, and then anything is fine
-written_so : {c : Command} (reason lo hi : ℕ) (a : State) → Triple full c (at full) never → Sound (known a) c (cond (is_written a) (Ok (Falls written)) (give_up reason lo hi))
+written_so : {c : Command} (reason : Reason) (lo hi : ℕ) (a : State) → Triple full c (at full) never → Sound (known a) c (cond (is_written a) (Ok (Falls written)) (give_up reason lo hi))
 written_so {c} reason lo hi a h = by_test (Sound (known a) c) (is_written a) (λ q. sound_falls (rw (known_all a q, known_written) (loose h))) (λ q. sound_stop)
 
 -- a task, by the tests of its effect
@@ -70,8 +71,8 @@ effect_so : (lo hi : ℕ) (a : State) (zero one two : Bool)
     → Sound (known a) (cond zero skip (cond one (emit write) (emit read))) (task (cond zero Inert (cond one CallWrites (cond two CallReads Unknown))) lo hi a)
 effect_so lo hi a true one two = sound_falls rule_skip
 effect_so lo hi a false true two = sound_falls {b = written} (rw known_written rule_write)
-effect_so lo hi a false false true = written_so 6 lo hi a (rule_read ⊑_refl)
-effect_so lo hi a false false false = written_so 7 lo hi a (rule_read ⊑_refl)
+effect_so lo hi a false false true = written_so TaskReads lo hi a (rule_read ⊑_refl)
+effect_so lo hi a false false false = written_so TaskUnknown lo hi a (rule_read ⊑_refl)
 
 -- a disable
 jump_so : (is_jump : Bool) (a : State) → Sound (known a) (jump is_jump) (cond is_jump (Ok Jumps) (Ok (Falls a)))
@@ -186,13 +187,13 @@ module _ (sem : Semantics) (ctx : DaCtx) (r : StmtRow) (cs : Forest) {es : List 
       others a = in_free (others_so lh (expr 1) (expr 2) (known a)) (quietly refl)
   row_law If n quietly = unvetted n (if_so (expr 0) (child 1) (child 2))
   row_law Block n quietly = unvetted n (block_so lw)
-  row_law Fork n quietly = unvetted n λ a. written_so 5 r.lo r.hi a (rule_outside ⊑_refl)
-  row_law Unmodelled n quietly = unvetted n λ a. written_so 9 r.lo r.hi a (rule_outside ⊑_refl)
-  row_law Null n quietly = tested (λ p a. rule_skip) (λ p a. written_so 9 r.lo r.hi a rule_skip)
+  row_law Fork n quietly = unvetted n λ a. written_so Forks r.lo r.hi a (rule_outside ⊑_refl)
+  row_law Unmodelled n quietly = unvetted n λ a. written_so NotModelled r.lo r.hi a (rule_outside ⊑_refl)
+  row_law Null n quietly = tested (λ p a. rule_skip) (λ p a. written_so NotModelled r.lo r.hi a rule_skip)
   row_law Systask n quietly =
       tested
       (λ p a. all_together sem.order (quiet_each le (quiet (not-true (refers Skipped ctx.local cs) (sym n ∙ p)))))
-      (λ p a. written_so 9 r.lo r.hi a (all_together sem.order (calm_each le)))
+      (λ p a. written_so NotModelled r.lo r.hi a (all_together sem.order (calm_each le)))
   row_law Case n quietly = unvetted n (case_so sem.order (expr 0) (related_tail lw))
   row_law For n quietly = unvetted n λ a. sound_state _ ((child 0).sound a) (while_so 1 3 (child 2))
   row_law While n quietly = unvetted n (while_so 0 1 no_law)

@@ -9,9 +9,8 @@ use Rattle.paths.proofs.Rules.{◌≽◌, less, nowhere, ≽_refl, weaken, keep,
 use Rattle.da.specs.declared.DaOut.{DaOut}
 use Rattle.da.specs.declared.DaOut.TheVariants.{Falls, Jumps}
 use Rattle.da.specs.declared.DaGiveUp.{DaGiveUp}
-use Rattle.da.specs.declared.DaResult.{DaResult}
-use Rattle.da.specs.declared.DaResult.TheVariants.{Ok, Err}
-use Rattle.da.specs.Outcome.{State, written, state, merge, go_on, ◌▷◌}
+use Rattle.std.specs.Prelude.{Ok, Err}
+use Rattle.da.specs.Outcome.{DaResult, State, written, state, merge, go_on, ◌▷◌}
 use Rattle.soundness.proofs.Known.{known, known_meet_first, known_meet_second}
 
 -- from a mark on: falls means that so much is written next, jumps that nothing is run next; a give-up claims nothing. Of loop

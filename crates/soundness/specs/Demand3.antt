@@ -1,5 +1,5 @@
 -- Demand 3 over trees: nothing slips through. One claim over every tree, of whatever rows, and all its paths.
-use Rattle.std.specs.Prelude.{◌≡◌, Bool, true, List, ℕ}
+use Rattle.std.specs.Prelude.{◌≡◌, Bool, true, List, ℕ, Ok}
 use Rattle.table.specs.Rows.{Forest}
 use Rattle.reads.specs.Iffs.{iff_quiet}
 use Rattle.paths.specs.Commands.{PathEvent, falls, Runs}
@@ -8,9 +8,7 @@ use Rattle.paths.specs.Written.{Written, ReadsWritten}
 use Rattle.stmt_paths.specs.Execution.{executed, IsPath}
 use Rattle.stmt_paths.specs.Premises.{nonblocking_quiet, Premises}
 use Rattle.da.specs.declared.DaOut.TheVariants.{Falls, Jumps}
-use Rattle.da.specs.declared.DaResult.{DaResult}
-use Rattle.da.specs.declared.DaResult.TheVariants.{Ok}
-use Rattle.da.specs.Outcome.{State, unwritten, written, Accepted}
+use Rattle.da.specs.Outcome.{DaResult, State, unwritten, written, Accepted}
 use Rattle.da.specs.Walk.{da_ctx, da_stmt}
 
 -- what is promised of a tree: "whatever truth its conditions take, whichever arm, if any, each case picks, whichever way each loop jump

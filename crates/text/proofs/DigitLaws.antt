@@ -1,18 +1,17 @@
 -- What the digits that `number` reads at a place tell of the field there: where it ends, and what it spells. Reading stops early where a number is too
 -- large or a zero leads, and then the field spells none. The inductions are on the bytes.
 use Prim.Native.Nat.{ℕ, ◌+◌, ◌*◌, ◌≤◌, ◌<◌, ◌-◌}
-use mathlib.Core.Path.{◌≡◌, refl, sym, ◌∙◌}
+use mathlib.Core.Path.{◌≡◌, refl}
 use mathlib.Core.Bool.{Bool, true, false, cond, ◌&&◌, and-eq-true_iff}
 use mathlib.Core.List.{List, [], ◌∷◌}
 use native.Mathlib.Omega.{arith}
-use lib.ListN.{drop}
 use lib.Dec.{eqb, leb}
 use borrow.Author.Tests.{leb-true, leb-false, lt-leb, eqb-true, ne_eqb}
-use Rattle.text.specs.Fields.{is_stop, field_length, field_of, field, stop_at, stands, ends_by}
-use Rattle.text.specs.Steps.{after_byte, goes_on, more_value, more_count, first_value, first_count, FirstRead, next_field, field_number}
-use Rattle.text.specs.Numbers.{Spelled, none, is_digit, all_digits, is_empty, zero_first, decimal, bounded, number_of}
-use Rattle.text.proofs.Stops.{byte_stands, byte_missing}
-use Rattle.text.proofs.FieldReads.{Reads, reads_all, reads_none, reads_more, rest_stop, here, told_all, told_some}
+use Rattle.std.specs.Prelude.{Option, None}
+use Rattle.text.specs.Fields.{is_stop, field_length, field_of}
+use Rattle.text.specs.Steps.{goes_on, more_value, more_count, first_value, first_count}
+use Rattle.text.specs.Numbers.{is_digit, all_digits, is_empty, zero_first, decimal, bounded, number_of}
+use Rattle.text.proofs.FieldReads.{Reads, reads_all, reads_none, reads_more}
 
 -- a byte is a digit, or ends the field, or neither
 data Byte (sep b : ℕ) : Type 0 where
@@ -35,21 +34,21 @@ byte sep b small = go (is_digit b) (is_stop sep b) refl refl
     go false false p q = other p q
 
 -- what these bytes spell after digits that spell v
-spelt : ℕ → List ℕ → Spelled
-spelt v t = cond (all_digits t) (bounded (decimal v t)) none
+spelt : ℕ → List ℕ → Option ℕ
+spelt v t = cond (all_digits t) (bounded (decimal v t)) None
 
 -- v is too large already
-spelt_large : (v : ℕ) (t : List ℕ) → 4294967295 < v → spelt v t ≡ none
+spelt_large : (v : ℕ) (t : List ℕ) → 4294967295 < v → spelt v t ≡ None
 unfolding spelt all_digits decimal bounded
 spelt_large v [] h = rw (lt-leb v 4294967295 h)
 spelt_large v (b ∷ t) h = go (is_digit b) (spelt_large (v * 10 + (b - 48)) t (omega arith))
   where
-    go : (d : Bool) → spelt (v * 10 + (b - 48)) t ≡ none → cond (d && all_digits t) (bounded (decimal (v * 10 + (b - 48)) t)) none ≡ none
+    go : (d : Bool) → spelt (v * 10 + (b - 48)) t ≡ None → cond (d && all_digits t) (bounded (decimal (v * 10 + (b - 48)) t)) None ≡ None
     go true ih = ih
     go false ih = refl
 
 -- the first byte is no zero
-starts : (b : ℕ) (t : List ℕ) → eqb b 48 ≡ false → number_of (b ∷ t) ≡ cond (is_digit b) (spelt (b - 48) t) none
+starts : (b : ℕ) (t : List ℕ) → eqb b 48 ≡ false → number_of (b ∷ t) ≡ cond (is_digit b) (spelt (b - 48) t) None
 unfolding number_of spelt is_empty zero_first all_digits decimal
 starts b t z = let e : 0 * 10 + (b - 48) ≡ b - 48 = omega arith in rw (e, not_zero t) (go (is_digit b))
   where
@@ -57,13 +56,13 @@ starts b t z = let e : 0 * 10 + (b - 48) ≡ b - 48 = omega arith in rw (e, not_
     not_zero [] = refl
     not_zero (c ∷ t) = z
 
-    go : (d : Bool) → cond (d && all_digits t) (bounded (decimal (b - 48) t)) none ≡ cond d (spelt (b - 48) t) none
+    go : (d : Bool) → cond (d && all_digits t) (bounded (decimal (b - 48) t)) None ≡ cond d (spelt (b - 48) t) None
     go true = refl
     go false = refl
 
 module _ (sep : ℕ) (small : sep ≤ 32) where
   -- the digits after some that spell v
-  more : (v : ℕ) (t : List ℕ) → Reads none sep t (more_count v t) (bounded (more_value v t)) (spelt v (field_of sep t))
+  more : (v : ℕ) (t : List ℕ) → Reads None sep t (more_count v t) (bounded (more_value v t)) (spelt v (field_of sep t))
   unfolding more_count more_value goes_on spelt field_of field_length all_digits decimal
   more v [] = reads_all refl
   more v (b ∷ t) = go (byte sep b small) (leb v 429496729) refl (more next t)
@@ -74,63 +73,31 @@ module _ (sep : ℕ) (small : sep ≤ 32) where
       go : Byte sep b
           → (m : Bool)
           → leb v 429496729 ≡ m
-          → Reads none sep t (more_count next t) (bounded (more_value next t)) (spelt next (field_of sep t))
-          → Reads none sep (b ∷ t) (more_count v (b ∷ t)) (bounded (more_value v (b ∷ t))) (spelt v (field_of sep (b ∷ t)))
+          → Reads None sep t (more_count next t) (bounded (more_value next t)) (spelt next (field_of sep t))
+          → Reads None sep (b ∷ t) (more_count v (b ∷ t)) (bounded (more_value v (b ∷ t))) (spelt v (field_of sep (b ∷ t)))
       go (digit d s) true e ih = rw (s, d, e) (reads_more s ih)
       go (digit d s) false e ih = rw (s, d, e, spelt_large next (field_of sep t) (omega (arith, leb-false v 429496729 e))) (reads_none s)
       go (stops d s) m e ih = rw (s, d) (reads_all (rw s))
       go (other d s) m e ih = rw (s, d) (reads_none s)
 
   -- no byte is read after a first zero
-  zero_more : (t : List ℕ) → Reads none sep t 0 (bounded 0) (number_of (48 ∷ field_of sep t))
+  zero_more : (t : List ℕ) → Reads None sep t 0 (bounded 0) (number_of (48 ∷ field_of sep t))
   unfolding number_of is_empty zero_first all_digits is_digit decimal field_of field_length
   zero_more [] = reads_all refl
   zero_more (b ∷ t) = go (is_stop sep b) refl
     where
-      go : (s : Bool) → is_stop sep b ≡ s → Reads none sep (b ∷ t) 0 (bounded 0) (number_of (48 ∷ field_of sep (b ∷ t)))
+      go : (s : Bool) → is_stop sep b ≡ s → Reads None sep (b ∷ t) 0 (bounded 0) (number_of (48 ∷ field_of sep (b ∷ t)))
       go true s = rw s (reads_all (rw s))
       go false s = rw s (reads_none s)
 
   -- the digits from the first byte on
-  first : (t : List ℕ) → Reads none sep t (first_count t) (bounded (first_value t)) (number_of (field_of sep t))
+  pub first : (t : List ℕ) → Reads None sep t (first_count t) (first_value t) (number_of (field_of sep t))
   unfolding first_count first_value number_of is_empty field_of field_length bounded
   first [] = reads_all refl
   first (b ∷ t) = go (byte sep b small) (eqb b 48) refl
     where
-      go : Byte sep b → (z : Bool) → eqb b 48 ≡ z → Reads none sep (b ∷ t) (first_count (b ∷ t)) (bounded (first_value (b ∷ t))) (number_of (field_of sep (b ∷ t)))
+      go : Byte sep b → (z : Bool) → eqb b 48 ≡ z → Reads None sep (b ∷ t) (first_count (b ∷ t)) (first_value (b ∷ t)) (number_of (field_of sep (b ∷ t)))
       go x true z = let s = goes sep 48 small (omega arith) in rw (eqb-true b 48 z, s) (reads_more s (zero_more t))
       go (digit d s) false z = rw (s, starts b (field_of sep t) z, z, d) (reads_more s (more (b - 48) t))
       go (stops d s) false z = rw (s, z, d) (reads_all (rw s))
       go (other d s) false z = rw (s, starts b (field_of sep t) z, z, d) (reads_none s)
-
--- `number` at a place, after the digits there up to `stop`, whose number is v
-module _ (sep end : ℕ) (s : List ℕ) (at : ℕ) (small : sep ≤ 32) (e : is_stop sep end ≡ true) (stop v : ℕ) (d : FirstRead s at stop v) (next : ℕ) (q : next ≡ after_byte end s stop) where
-  reads : Reads none sep (drop at s) (first_count (drop at s)) (bounded (first_value (drop at s))) (number_of (field sep s at))
-  reads = first sep small (drop at s)
-
-  -- where `end` follows the digits, the field stops there
-  pub ended_next : (next ≡ 0 → ⊥) → next ≡ next_field sep end s at
-  unfolding next_field
-  ended_next n = q ∙ rw (here none sep s at _ _ _ reads stop d.stop end e (byte_stands end s stop next q n))
-
-  -- it spells their number, and none if that is too large or there is no digit
-  pub ended_value : (next ≡ 0 → ⊥) → bounded v ≡ field_number sep end s at
-  unfolding field_number ends_by
-  ended_value n =
-      let h = byte_stands end s stop next q n in
-      rw (← here none sep s at _ _ _ reads stop d.stop end e h, h, d.number) (sym (told_all none sep s at _ _ _ reads stop d.stop end e h))
-
-  -- where another byte follows the digits, the field goes on or is not ended by `end`, and spells none
-  pub far_next : (far : ℕ) → far ≡ stop_at sep s stop → (after : ℕ) → after ≡ after_byte end s far → after ≡ next_field sep end s at
-  unfolding next_field
-  far_next far f after p = p ∙ rw (f ∙ rest_stop none sep s at _ _ _ reads stop d.stop)
-
-  pub far_value : next ≡ 0 → bounded 4294967296 ≡ field_number sep end s at
-  unfolding field_number ends_by bounded
-  far_value z = go (stands end s (stop_at sep s at)) refl
-    where
-      go : (r : Bool) → stands end s (stop_at sep s at) ≡ r → none ≡ cond r (number_of (field sep s at)) none
-      go true p = sym (told_some none sep s at _ _ _ reads stop d.stop end (byte_missing end s stop next q z) p)
-      go false p = refl
-
-pub ruleset answers = (ended_next, ended_value, far_next, far_value)

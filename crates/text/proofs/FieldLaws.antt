@@ -1,7 +1,6 @@
--- What a caller knows of a key, a field or a line from the place that a call gives it: 0 stands for what is not there, and the laws say which of the
--- two it is. No induction: the definitions are opened once, here.
+-- What a caller knows of a key, a field or a line from what a call answers of it. No induction: the definitions are opened once, here.
 use Prim.Native.Nat.{ℕ, ◌+◌, ◌-◌, ◌≤◌, ◌<◌}
-use mathlib.Core.Path.{◌≡◌, refl, sym, ◌∙◌}
+use mathlib.Core.Path.{◌≡◌, refl, sym, ap, ◌∙◌}
 use mathlib.Core.Bool.{Bool, true, false, cond, and-eq-true_iff, true≢false}
 use mathlib.Core.List.{List}
 use native.Mathlib.Nat.{add-sub_cancel_left}
@@ -9,77 +8,102 @@ use native.Mathlib.Omega.{arith}
 use lib.Dec.{eqb, ltb}
 use lib.ListN.{length, take, drop}
 use borrow.Author.Tests.{ltb-true, eqb-true, eqb-false}
+use Rattle.std.specs.Prelude.{Option, Some, None}
 use Rattle.text.specs.Fields.{field_length, field_of, field, stop_at, stands, ends_by, after, starts_with, all_graphic}
-use Rattle.text.specs.Steps.{after_key, next_field, field_number, graphic_length, GraphicRead}
-use Rattle.text.specs.Numbers.{bounded, number_of}
-use Rattle.text.proofs.Stops.{byte_stands, byte_after, byte_missing}
+use Rattle.text.specs.Steps.{after_key, field_read, graphic_length, graphic_line}
+use Rattle.text.specs.declared.Field.{Field}
+use Rattle.text.specs.declared.GraphicLine.{GraphicLine}
 use Rattle.text.proofs.FieldReads.{whole_stop}
 use Rattle.text.proofs.GraphicLaws.{shows}
 
+-- what a choice by a test tells of the test
+module _ {A : Type 0} (o : Option A) (b : Bool) (x : A) (q : o ≡ cond b (Some x) None) where
+  chosen : (y : A) → o ≡ Some y → (b ≡ true) × (y ≡ x)
+  chosen y e = go b (sym q ∙ e)
+    where
+      go : (b : Bool) → cond b (Some x) None ≡ Some y → (b ≡ true) × (y ≡ x)
+      go true p = (refl, cc)
+      go false p = absurd (let z : ◌≡◌ {A = ℕ} 0 1 = cc in omega arith)
+
+  not_chosen : o ≡ None → b ≡ false
+  not_chosen e = go b (sym q ∙ e)
+    where
+      go : (b : Bool) → cond b (Some x) None ≡ None → b ≡ false
+      go true p = absurd (let z : ◌≡◌ {A = ℕ} 0 1 = cc in omega arith)
+      go false p = refl
+
 -- a key that stands at a place, and one that does not
-module _ (key s : List ℕ) (at r : ℕ) (q : r ≡ after_key key s at) where
-  pub key_stands : (r ≡ 0 → ⊥) → starts_with key (drop at s) ≡ true
+module _ (key s : List ℕ) (at : ℕ) (o : Option ℕ) (q : o ≡ after_key key s at) where
+  pub key_found : (from : ℕ) → o ≡ Some from → (starts_with key (drop at s) ≡ true) × (from ≡ at + length key)
   unfolding after_key
-  key_stands n = go (starts_with key (drop at s)) q
-    where
-      go : (b : Bool) → r ≡ cond b (at + length key) 0 → b ≡ true
-      go true q = refl
-      go false q = absurd (n q)
+  key_found = chosen o (starts_with key (drop at s)) (at + length key) q
 
-  pub key_after : (r ≡ 0 → ⊥) → r ≡ at + length key
+  pub key_missed : o ≡ None → starts_with key (drop at s) ≡ false
   unfolding after_key
-  key_after n = q ∙ rw (key_stands n)
+  key_missed = not_chosen o (starts_with key (drop at s)) (at + length key) q
 
-  pub key_missing : 0 < length key → r ≡ 0 → starts_with key (drop at s) ≡ false
-  unfolding after_key
-  key_missing p z = go (starts_with key (drop at s)) (sym z ∙ q)
-    where
-      go : (b : Bool) → 0 ≡ cond b (at + length key) 0 → b ≡ false
-      go true q = absurd (omega arith)
-      go false q = refl
+-- a field that is ended, and one that is not
+module _ (says : List ℕ → Option ℕ) (sep end : ℕ) (s : List ℕ) (at : ℕ) (o : Option Field) (q : o ≡ field_read says sep end s at) where
+  field_found : (f : Field) → o ≡ Some f → (ends_by sep end s at ≡ true) × (f ≡ record { value = says (field sep s at); next = after sep s at })
+  unfolding field_read
+  field_found = chosen o (ends_by sep end s at) (record { value = says (field sep s at); next = after sep s at }) q
 
--- a field with a next one, and one without
-module _ (sep end : ℕ) (s : List ℕ) (at r : ℕ) (q : r ≡ next_field sep end s at) where
-  pub next_ends : (r ≡ 0 → ⊥) → ends_by sep end s at ≡ true
-  unfolding next_field ends_by
-  next_ends n = byte_stands end s (stop_at sep s at) r q n
+  module _ (f : Field) (p : o ≡ Some f) where
+    pub field_ends : ends_by sep end s at ≡ true
+    field_ends = (field_found f p).0
 
-  pub next_after : (r ≡ 0 → ⊥) → r ≡ after sep s at
-  unfolding next_field after
-  next_after n = byte_after end s (stop_at sep s at) r q n
+    pub field_next : f.next ≡ after sep s at
+    field_next = ap (λ (f : Field). f.next) (field_found f p).1
 
-  pub next_none : r ≡ 0 → ends_by sep end s at ≡ false
-  unfolding next_field ends_by
-  next_none z = byte_missing end s (stop_at sep s at) r q z
+    pub field_says : f.value ≡ says (field sep s at)
+    field_says = ap (λ (f : Field). f.value) (field_found f p).1
 
-  -- what the field spells
-  pub next_number : (r ≡ 0 → ⊥) → (v : ℕ) → bounded v ≡ field_number sep end s at → number_of (field sep s at) ≡ bounded v
-  unfolding field_number
-  next_number n v e = sym (e ∙ rw (next_ends n))
+  pub field_missed : o ≡ None → ends_by sep end s at ≡ false
+  unfolding field_read
+  field_missed = not_chosen o (ends_by sep end s at) (record { value = says (field sep s at); next = after sep s at }) q
 
 -- the bytes of a field
 pub field_part : (sep : ℕ) (s : List ℕ) (at stop : ℕ) → stop ≡ stop_at sep s at → take (stop - at) (drop at s) ≡ field sep s at
 unfolding stop_at field_of
 field_part sep s at stop e = rw (e, add-sub_cancel_left)
 
--- a line whose text has bytes from 33 to 126 alone
-module _ (s : List ℕ) (at : ℕ) (all : Bool) (stop next : ℕ) (r : GraphicRead s at all stop next) where
-  pub line_from : at ≤ stop
-  line_from = omega (arith, r.far)
+-- a line
+module _ (s : List ℕ) (at : ℕ) (o : Option GraphicLine) (q : o ≡ graphic_line s at) where
+  pub line_missed : o ≡ None → ends_by 10 10 s at ≡ false
+  unfolding graphic_line
+  line_missed = not_chosen o (ends_by 10 10 s at) (record { all = all_graphic (field 10 s at); stop = at + graphic_length (drop at s); next = after 10 s at }) q
 
-  module _ (n : next ≡ 0 → ⊥) where
-    pub line_told : all ≡ all_graphic (field 10 s at)
-    line_told = r.fits ∙ rw (next_ends 10 10 s at next r.past n)
+  module _ (g : GraphicLine) (p : o ≡ Some g) where
+    line_found : (ends_by 10 10 s at ≡ true) × (g ≡ record { all = all_graphic (field 10 s at); stop = at + graphic_length (drop at s); next = after 10 s at })
+    unfolding graphic_line
+    line_found = chosen o (ends_by 10 10 s at) (record { all = all_graphic (field 10 s at); stop = at + graphic_length (drop at s); next = after 10 s at }) q g p
 
-    pub line_text_lem : all ≡ true → stop ≡ stop_at 10 s at
-    line_text_lem t = go (eqb (graphic_length (drop at s)) (field_length 10 (drop at s))) refl
-      where
-        go : (b : Bool) → eqb (graphic_length (drop at s)) (field_length 10 (drop at s)) ≡ b → stop ≡ stop_at 10 s at
-        go true e = whole_stop false 10 s at _ _ _ (shows (drop at s)) stop r.far (eqb-true _ _ e)
-        go false e = absurd (true≢false (sym t ∙ line_told ∙ (shows (drop at s)).part (eqb-false _ _ e)))
+    pub line_ends : ends_by 10 10 s at ≡ true
+    line_ends = line_found.0
 
-    pub line_within : all ≡ true → stop ≤ length s
-    unfolding ends_by stands
-    line_within t =
-        let h : stop_at 10 s at < length s = ltb-true _ _ ((and-eq-true_iff (ltb (stop_at 10 s at) (length s)) _).0 (next_ends 10 10 s at next r.past n)).0 in
-        omega (arith, line_text_lem t)
+    pub line_next : g.next ≡ after 10 s at
+    line_next = ap (λ (g : GraphicLine). g.next) line_found.1
+
+    pub line_told : g.all ≡ all_graphic (field 10 s at)
+    line_told = ap (λ (g : GraphicLine). g.all) line_found.1
+
+    line_far : g.stop ≡ at + graphic_length (drop at s)
+    line_far = ap (λ (g : GraphicLine). g.stop) line_found.1
+
+    pub line_from : at ≤ g.stop
+    line_from = omega (arith, line_far)
+
+    -- whose text has bytes from 33 to 126 alone
+    module _ (t : g.all ≡ true) where
+      pub line_text_lem : g.stop ≡ stop_at 10 s at
+      line_text_lem = go (eqb (graphic_length (drop at s)) (field_length 10 (drop at s))) refl
+        where
+          go : (b : Bool) → eqb (graphic_length (drop at s)) (field_length 10 (drop at s)) ≡ b → g.stop ≡ stop_at 10 s at
+          go true e = whole_stop false 10 s at _ _ _ (shows (drop at s)) g.stop line_far (eqb-true _ _ e)
+          go false e = absurd (true≢false (sym t ∙ line_told ∙ (shows (drop at s)).part (eqb-false _ _ e)))
+
+      pub line_within : g.stop ≤ length s
+      unfolding ends_by stands
+      line_within =
+          let h : stop_at 10 s at < length s = ltb-true _ _ ((and-eq-true_iff (ltb (stop_at 10 s at) (length s)) _).0 line_found.0).0 in
+          omega (arith, line_text_lem)

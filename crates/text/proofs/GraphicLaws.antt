@@ -1,17 +1,18 @@
 -- What the bytes from 33 to 126 that `graphic_line` reads at a place tell of the line there: they are all of it, or one that is not such stops
 -- them. The induction is on the bytes.
 use Prim.Native.Nat.{ℕ, ◌+◌}
-use mathlib.Core.Path.{◌≡◌, refl, sym, ◌∙◌}
-use mathlib.Core.Bool.{Bool, true, false, ◌&&◌, and-eq-true_iff}
+use mathlib.Core.Path.{◌≡◌, refl, ◌∙◌}
+use mathlib.Core.Bool.{Bool, true, false, and-eq-true_iff}
 use mathlib.Core.List.{List, [], ◌∷◌}
 use native.Mathlib.Omega.{arith}
 use lib.Dec.{leb}
 use lib.ListN.{drop}
 use borrow.Author.Tests.{leb-true, ne_eqb}
-use Rattle.text.specs.Fields.{is_stop, field_length, field_of, field, stop_at, stands, ends_by, is_graphic, all_graphic}
-use Rattle.text.specs.Steps.{after_byte, next_field, graphic_length, GraphicRead}
-use Rattle.text.proofs.Stops.{byte_stands, byte_missing}
-use Rattle.text.proofs.FieldReads.{Reads, reads_all, reads_none, reads_more, rest_stop, here, told_all, told_some}
+use Rattle.std.specs.Prelude.{Option, Some, None}
+use Rattle.text.specs.Fields.{is_stop, field_length, field_of, stop_at, is_graphic, all_graphic}
+use Rattle.text.specs.Steps.{after_byte, graphic_length, graphic_line}
+use Rattle.text.specs.declared.GraphicLine.{GraphicLine}
+use Rattle.text.proofs.FieldReads.{Reads, reads_all, reads_none, reads_more, read_ended, read_far, read_never}
 
 -- such a byte ends no line
 inside : (b : ℕ) → is_graphic b ≡ true → is_stop 10 b ≡ false
@@ -34,22 +35,21 @@ unfolding is_stop
 line_stop = refl
 
 -- `graphic_line` at a place, where they go up to `stop`
-module _ (s : List ℕ) (at stop : ℕ) (i : stop ≡ at + graphic_length (drop at s)) (next : ℕ) (q : next ≡ after_byte 10 s stop) where
+module _ (s : List ℕ) (at stop : ℕ) (i : stop ≡ at + graphic_length (drop at s)) where
+  out : Bool → ℕ → GraphicLine
+  out all next = record { all = all; stop = at + graphic_length (drop at s); next = next }
+
   -- where byte 10 follows them, they are the line's text
-  pub line_all : (next ≡ 0 → ⊥) → GraphicRead s at true stop next
-  unfolding ends_by next_field
-  line_all n =
-      let h = byte_stands 10 s stop next q n in
-      let e = here false 10 s at _ _ _ (shows (drop at s)) stop i 10 line_stop h in
-      record { fits = rw (← e, h) (sym (told_all false 10 s at _ _ _ (shows (drop at s)) stop i 10 line_stop h)); far = i; past = q ∙ rw e }
+  pub line_ended : (o : Option ℕ) → o ≡ after_byte 10 s stop → (next : ℕ) → o ≡ Some next → Some (record { all = true; stop = stop; next = next }) ≡ graphic_line s at
+  unfolding graphic_line out
+  line_ended o q next p = rw i (read_ended false 10 10 s at _ _ _ (shows (drop at s)) stop i out line_stop o q next p)
 
   -- where another byte does, they are not
-  pub line_some : next ≡ 0 → (far : ℕ) → far ≡ stop_at 10 s stop → (after : ℕ) → after ≡ after_byte 10 s far → GraphicRead s at false stop after
-  unfolding ends_by next_field
-  line_some z far f after p = record { fits = go (stands 10 s (stop_at 10 s at)) refl; far = i; past = p ∙ rw (f ∙ rest_stop false 10 s at _ _ _ (shows (drop at s)) stop i) }
-    where
-      go : (r : Bool) → stands 10 s (stop_at 10 s at) ≡ r → false ≡ r && all_graphic (field 10 s at)
-      go true h = sym (told_some false 10 s at _ _ _ (shows (drop at s)) stop i 10 (byte_missing 10 s stop next q z) h)
-      go false h = refl
+  module _ (o : Option ℕ) (far : ℕ) (f : far ≡ stop_at 10 s stop) (q : o ≡ after_byte 10 s far) where
+    pub line_far : (m : Option ℕ) → m ≡ after_byte 10 s stop → m ≡ None → (next : ℕ) → o ≡ Some next → Some (record { all = false; stop = stop; next = next }) ≡ graphic_line s at
+    unfolding graphic_line out
+    line_far m n z next p = rw i (read_far false 10 10 s at _ _ _ (shows (drop at s)) stop i out o (q ∙ rw f) m n z next p)
 
-pub ruleset answers = (line_all, line_some)
+    pub line_never : o ≡ None → None ≡ graphic_line s at
+    unfolding graphic_line out
+    line_never z = read_never false 10 10 s at _ _ _ (shows (drop at s)) stop i out o (q ∙ rw f) z

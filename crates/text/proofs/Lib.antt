@@ -1,6 +1,6 @@
+pub mod Places
 pub mod Stops
 pub mod FieldReads
-pub mod Prefixes
 pub mod Order
 pub mod Runs
 pub mod DigitLaws

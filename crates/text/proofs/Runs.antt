@@ -1,8 +1,7 @@
--- How far a number's digits and a name's bytes go, byte by byte: the value and the count so far, with what the bytes left add, are those of the whole. The
--- bytes left fall.
+-- How far a number's digits go, byte by byte: the value and the count so far, with what the bytes left add, are those of the whole.
 use Prim.Native.Nat.{ℕ, ◌+◌, ◌*◌, ◌≤◌, ◌<◌, ◌-◌}
 use mathlib.Core.Path.{◌≡◌, refl, sym, ◌∙◌}
-use mathlib.Core.Bool.{Bool, true, false, not, ◌&&◌, true≢false}
+use mathlib.Core.Bool.{Bool, true, false, and-eq-true_iff}
 use mathlib.Core.List.{List}
 use native.Mathlib.Nat.{add-zero}
 use native.Mathlib.Numerals.{add-one}
@@ -10,130 +9,90 @@ use native.Mathlib.Omega.{arith}
 use lib.Dec.{leb}
 use lib.ListN.{length, drop, drop_of_length-le}
 use lib.Seq.{drop-cons}
-use borrow.Author.Tests.{leb-true, le-leb, lt-leb, eq-eqb, ne_eqb, not-true, not-false}
-use Rattle.text.specs.Fields.{byte_at, is_graphic}
-use Rattle.text.specs.Numbers.{is_digit}
-use Rattle.text.specs.Steps.{goes_on, more_value, more_count, first_value, first_count, DigitValue, MoreRead, FirstRead, graphic_length}
-
-pub small : (b : ℕ) → b < 48 → false ≡ is_digit b
-unfolding is_digit
-small b h = rw (lt-leb 48 b h)
-
-pub large : (b : ℕ) → 48 ≤ b → leb b 57 ≡ is_digit b
-unfolding is_digit
-large b h = rw (le-leb 48 b h)
-
-pub record Digit (b : ℕ) : Type 0 where
-  pub low : 48 ≤ b
-  pub high : b ≤ 57
-
-pub digit_told : (b : ℕ) → is_digit b ≡ true → Digit b
-unfolding is_digit
-digit_told b e = go (leb 48 b) refl e
-  where
-    go : (l : Bool) → leb 48 b ≡ l → l && leb b 57 ≡ true → Digit b
-    go true q p = record { low = leb-true 48 b q; high = leb-true b 57 p }
-    go false q p = absurd (true≢false (sym p))
-
-pub known_digit : (b : ℕ) (r : Bool) → r ≡ is_digit b → not r ≡ false → is_digit b ≡ true
-known_digit b r e n = sym e ∙ not-false r n
-
-pub given_digit : (b : ℕ) (r : Bool) → r ≡ is_digit b → r ≡ true → is_digit b ≡ true
-given_digit b r e t = sym e ∙ t
-
-pub digit_low : (b d : ℕ) → is_digit b ≡ true → d ≡ b → 48 ≤ d
-digit_low b d e q = rw q (digit_told b e).low
-
-pub digit_is : (b d : ℕ) → is_digit b ≡ true → d ≡ b → DigitValue b (d - 48)
-digit_is b d e q = record { is = rw q; few = rw q (omega (arith, digit_told b e)) }
+use borrow.Author.Tests.{le-leb, lt-leb, leb-true, eq-eqb, ne_eqb}
+use Rattle.std.specs.Prelude.{Option, Some, None, max}
+use Rattle.std.specs.Char.{is_ascii_digit}
+use Rattle.text.specs.Fields.{byte_at}
+use Rattle.text.specs.Numbers.{is_digit, bounded}
+use Rattle.text.specs.Steps.{goes_on, more_value, more_count, first_value, first_count}
 
 -- what the reading of digits knows at place i, with the number v
-pub record Reading (s : List ℕ) (at value i v : ℕ) : Type 0 where
+pub record Reading (s : List ℕ) (at first i v : ℕ) : Type 0 where
+  pub from : at ≤ i
+  pub within : i ≤ max at (length s)
   pub bound : v ≤ 4294967299
-  pub number : more_value value (drop at s) ≡ more_value v (drop i s)
-  pub stop : at + more_count value (drop at s) ≡ i + more_count v (drop i s)
+  pub number : more_value first (drop at s) ≡ more_value v (drop i s)
+  pub stop : at + more_count first (drop at s) ≡ i + more_count v (drop i s)
 
-pub read_start : (s : List ℕ) (at value : ℕ) → value ≤ 9 → Reading s at value at value
-read_start s at value h = record { bound = omega arith; number = refl; stop = refl }
+pub read_start : (s : List ℕ) (at first : ℕ) → first ≤ 9 → Reading s at first at first
+read_start s at first h = record { from = omega arith; within = omega arith; bound = omega arith; number = refl; stop = refl }
 
-module _ (s : List ℕ) (at value i v : ℕ) (w : Reading s at value i v) where
-  pub read_past : length s ≤ i → MoreRead s at value i v
+-- what it tells once it ends
+pub record Told (s : List ℕ) (at first i v : ℕ) : Type 0 where
+  pub number : v ≡ more_value first (drop at s)
+  pub stop : i ≡ at + more_count first (drop at s)
+
+module _ (s : List ℕ) (at first i v : ℕ) (w : Reading s at first i v) where
+  pub read_past : length s ≤ i → Told s at first (max at (length s)) v
   unfolding more_value more_count
-  read_past h = record { number = sym (w.number ∙ rw (drop_of_length-le s h)); stop = sym (w.stop ∙ rw (drop_of_length-le s h, add-zero)) }
+  read_past h =
+      let e : max at (length s) ≡ i = omega (arith, w.from, w.within) in
+      record { number = sym (w.number ∙ rw (drop_of_length-le s h)); stop = e ∙ sym (w.stop ∙ rw (drop_of_length-le s h, add-zero)) }
 
   module _ (h : i < length s) where
-    read_stop : goes_on v (byte_at s i) ≡ false → MoreRead s at value i v
+    read_stop : goes_on v (byte_at s i) ≡ false → Told s at first i v
     unfolding more_value more_count
     read_stop e = record { number = sym (w.number ∙ rw (drop-cons s i 0 h, e)); stop = sym (w.stop ∙ rw (drop-cons s i 0 h, e, add-zero)) }
 
-    module _ (r : Bool) (e : r ≡ is_digit (byte_at s i)) where
-      pub read_other : not r ≡ true → MoreRead s at value i v
-      unfolding goes_on
-      read_other n = read_stop (rw (← e, not-true r n))
+    module _ (d : Bool) (q : d ≡ is_ascii_digit (byte_at s i)) where
+      pub read_other : d ≡ false → Told s at first i v
+      unfolding goes_on is_digit
+      read_other e = read_stop (rw (← q, e))
 
-      pub read_enough : not r ≡ false → 429496729 < v → MoreRead s at value i v
-      unfolding goes_on
-      read_enough n l = read_stop (rw (← e, not-false r n, lt-leb v 429496729 l))
+      pub read_enough : d ≡ true → 429496729 < v → Told s at first i v
+      unfolding goes_on is_digit
+      read_enough e l = read_stop (rw (← q, e, lt-leb v 429496729 l))
 
-      pub read_on : not r ≡ false → v ≤ 429496729 → (d : ℕ) → DigitValue (byte_at s i) d → Reading s at value (i + 1) (v * 10 + d)
-      unfolding more_value more_count goes_on
-      read_on n l d q =
-          let t = not-false r n in
+      pub read_on : d ≡ true → v ≤ 429496729 → (n : ℕ) → n ≡ byte_at s i - 48 → Reading s at first (i + 1) (v * 10 + n)
+      unfolding more_value more_count goes_on is_digit
+      read_on e l n p =
+          let f = le-leb v 429496729 l in
+          let small : byte_at s i ≤ 57 = leb-true _ _ ((and-eq-true_iff (leb 48 (byte_at s i)) (leb (byte_at s i) 57)).0 (sym q ∙ e)).1 in
           record {
-            bound = omega (arith, q.few);
-            number = w.number ∙ rw (drop-cons s i 0 h, ← e, t, le-leb v 429496729 l, ← q.is, add-one);
-            stop = w.stop ∙ rw (drop-cons s i 0 h, ← e, t, le-leb v 429496729 l, ← q.is, add-one) (omega arith);
+            from = omega (arith, w.from);
+            within = omega arith;
+            bound = omega arith;
+            number = w.number ∙ rw (p, drop-cons s i 0 h, ← q, e, f, add-one);
+            stop = w.stop ∙ rw (p, drop-cons s i 0 h, ← q, e, f, add-one) (omega arith);
           }
 
--- the first byte: none, a zero, another digit, or no digit
-pub first_past : (s : List ℕ) (at : ℕ) → length s ≤ at → FirstRead s at at 4294967296
+-- what the digits from a place on tell
+pub record First (s : List ℕ) (at : ℕ) (value : Option ℕ) (stop : ℕ) : Type 0 where
+  pub value_is : value ≡ first_value (drop at s)
+  pub stop_is : stop ≡ at + first_count (drop at s)
+
+pub first_past : (s : List ℕ) (at : ℕ) → length s ≤ at → First s at None at
 unfolding first_value first_count
-first_past s at h = record { number = rw (drop_of_length-le s h); stop = rw (drop_of_length-le s h, add-zero) }
+first_past s at h = record { value_is = rw (drop_of_length-le s h); stop_is = rw (drop_of_length-le s h, add-zero) }
 
 module _ (s : List ℕ) (at : ℕ) (h : at < length s) where
-  pub first_zero : byte_at s at ≡ 48 → FirstRead s at (at + 1) 0
-  unfolding first_value first_count
-  first_zero z = record { number = rw (drop-cons s at 0 h, eq-eqb (byte_at s at) 48 z); stop = rw (drop-cons s at 0 h, eq-eqb (byte_at s at) 48 z) }
+  pub zero_value : byte_at s at ≡ 48 → first_value (drop at s) ≡ Some 0
+  unfolding first_value
+  zero_value e = let z = eq-eqb (byte_at s at) 48 e in rw (drop-cons s at 0 h, z)
 
-  module _ (n : byte_at s at ≡ 48 → ⊥) (r : Bool) (q : r ≡ is_digit (byte_at s at)) where
-    pub first_digit : r ≡ true → (d : ℕ) → DigitValue (byte_at s at) d → (i v : ℕ) → MoreRead s (at + 1) d i v → FirstRead s at i v
-    unfolding first_value first_count
-    first_digit t d p i v m =
-        let other = ne_eqb (byte_at s at) 48 n in
-        record {
-          number = m.number ∙ rw (p.is, drop-cons s at 0 h, other, ← q, t, add-one);
-          stop = m.stop ∙ rw (p.is, drop-cons s at 0 h, other, ← q, t, add-one) (omega arith);
-        }
+  pub zero_count : byte_at s at ≡ 48 → first_count (drop at s) ≡ 1
+  unfolding first_count
+  zero_count e = let z = eq-eqb (byte_at s at) 48 e in rw (drop-cons s at 0 h, z)
 
-    pub first_none : r ≡ false → FirstRead s at at 4294967296
-    unfolding first_value first_count
-    first_none f =
-        let other = ne_eqb (byte_at s at) 48 n in
-        record { number = rw (drop-cons s at 0 h, other, ← q, f); stop = rw (drop-cons s at 0 h, other, ← q, f, add-zero) }
+  module _ (n : byte_at s at ≡ 48 → ⊥) (d : Bool) (q : d ≡ is_ascii_digit (byte_at s at)) where
+    pub first_other : d ≡ false → First s at None at
+    unfolding first_value first_count is_digit
+    first_other e =
+        let z = ne_eqb (byte_at s at) 48 n in
+        record { value_is = rw (drop-cons s at 0 h, z, ← q, e); stop_is = rw (drop-cons s at 0 h, z, ← q, e, add-zero) }
 
--- what the search for the end of a name's bytes knows at place i
-pub record Passing (s : List ℕ) (at i : ℕ) : Type 0 where
-  pub same : at + graphic_length (drop at s) ≡ i + graphic_length (drop i s)
-
-pub pass_start : (s : List ℕ) (at : ℕ) → Passing s at at
-pass_start s at = record { same = refl }
-
-module _ (s : List ℕ) (at i : ℕ) (w : Passing s at i) where
-  pub pass_past : length s ≤ i → i ≡ at + graphic_length (drop at s)
-  unfolding graphic_length
-  pass_past h = sym (w.same ∙ rw (drop_of_length-le s h, add-zero))
-
-  module _ (h : i < length s) where
-    pub pass_low : byte_at s i < 33 → i ≡ at + graphic_length (drop at s)
-    unfolding graphic_length is_graphic
-    pass_low l = sym (w.same ∙ rw (drop-cons s i 0 h, lt-leb 33 (byte_at s i) l, add-zero))
-
-    pub pass_high : 33 ≤ byte_at s i → 126 < byte_at s i → i ≡ at + graphic_length (drop at s)
-    unfolding graphic_length is_graphic
-    pass_high l g = sym (w.same ∙ rw (drop-cons s i 0 h, le-leb 33 (byte_at s i) l, lt-leb (byte_at s i) 126 g, add-zero))
-
-    pub pass_on : 33 ≤ byte_at s i → byte_at s i ≤ 126 → Passing s at (i + 1)
-    unfolding graphic_length is_graphic
-    pass_on l g = record { same = w.same ∙ rw (drop-cons s i 0 h, le-leb 33 (byte_at s i) l, le-leb (byte_at s i) 126 g, add-one) (omega arith) }
-
-pub ruleset answers = (small, large, read_start, read_past, read_other, read_enough, read_on, known_digit, given_digit, digit_low, digit_is, first_past, first_zero, first_digit, first_none, pass_start, pass_past, pass_low, pass_high, pass_on)
+    pub first_more : d ≡ true → (m : ℕ) → m ≡ byte_at s at - 48 → First s at (bounded (more_value m (drop (at + 1) s))) (at + 1 + more_count m (drop (at + 1) s))
+    unfolding first_value first_count is_digit
+    first_more e m p =
+        let z = ne_eqb (byte_at s at) 48 n in
+        record { value_is = rw (drop-cons s at 0 h, z, ← q, e, p, add-one); stop_is = rw (drop-cons s at 0 h, z, ← q, e, p, add-one) (omega arith) }

@@ -1,11 +1,6 @@
 -- The number that a text spells: document 01, refusal 2, "a number that is empty, has a non-digit, has a leading zero and more
 -- digits, or is above 4,294,967,295". Definitions only.
-use Rattle.std.specs.Prelude.{ℕ, ◌+◌, ◌-◌, ◌*◌, Bool, true, false, cond, not, ◌&&◌, List, [], ◌∷◌, eqb, leb}
-
--- what a text spells: a number, or none
-pub data Spelled : Type 0 where
-  is : ℕ → Spelled
-  none : Spelled
+use Rattle.std.specs.Prelude.{ℕ, ◌+◌, ◌-◌, ◌*◌, Bool, true, false, cond, not, ◌&&◌, Option, Some, None, List, [], ◌∷◌, eqb, leb}
 
 unfoldable pub is_digit : ℕ → Bool
 is_digit b = leb 48 b && leb b 57
@@ -31,8 +26,9 @@ decimal v [] = v
 decimal v (b ∷ t) = decimal (v * 10 + (b - 48)) t
 
 -- "above 4,294,967,295", the largest number of 32 bits, is none
-unfoldable pub bounded : ℕ → Spelled
-bounded v = cond (leb v 4294967295) (is v) none
+unfoldable pub bounded : ℕ → Option ℕ
+bounded v = cond (leb v 4294967295) (Some v) None
 
-unfoldable pub number_of : List ℕ → Spelled
-number_of t = cond (not (is_empty t) && (not (zero_first t) && all_digits t)) (bounded (decimal 0 t)) none
+-- what a text spells: a number, or none
+unfoldable pub number_of : List ℕ → Option ℕ
+number_of t = cond (not (is_empty t) && (not (zero_first t) && all_digits t)) (bounded (decimal 0 t)) None

@@ -1,16 +1,18 @@
--- What the code answers of bytes on its way: the place after what stands at a place, 0 where it does not, and how far a number or a name goes on.
+-- What the code answers of bytes on its way: the place after what stands at a place, if it stands there, and how far a number or a name goes on.
 -- Nothing here is document 01's: what these say of a field is proved in proofs/DigitLaws and proofs/GraphicLaws.
-use Rattle.std.specs.Prelude.{ℕ, zero, suc, ◌+◌, ◌-◌, ◌*◌, ◌≤◌, ◌≡◌, Bool, cond, ◌&&◌, List, [], ◌∷◌, eqb, leb, length, drop}
-use Rattle.text.specs.Fields.{stop_at, stands, ends_by, field, starts_with, is_graphic, all_graphic}
-use Rattle.text.specs.Numbers.{Spelled, none, is_digit, number_of}
+use Rattle.std.specs.Prelude.{ℕ, zero, suc, ◌+◌, ◌-◌, ◌*◌, Bool, cond, ◌&&◌, Option, Some, None, List, [], ◌∷◌, eqb, leb, length, drop}
+use Rattle.text.specs.Fields.{stands, ends_by, field, after, starts_with, is_graphic, all_graphic}
+use Rattle.text.specs.Numbers.{is_digit, bounded}
+use Rattle.text.specs.declared.Field.{Field}
+use Rattle.text.specs.declared.GraphicLine.{GraphicLine}
 
--- the place after this byte, if it stands at a place, and 0 if not
-unfoldable pub after_byte : ℕ → List ℕ → ℕ → ℕ
-after_byte byte s at = cond (stands byte s at) (at + 1) 0
+-- the place after this byte, if it stands at a place
+unfoldable pub after_byte : ℕ → List ℕ → ℕ → Option ℕ
+after_byte byte s at = cond (stands byte s at) (Some (at + 1)) None
 
--- the place after a key, if it stands at a place, and 0 if not
-unfoldable pub after_key : List ℕ → List ℕ → ℕ → ℕ
-after_key key s at = cond (starts_with key (drop at s)) (at + length key) 0
+-- the place after a key, if it stands at a place
+unfoldable pub after_key : List ℕ → List ℕ → ℕ → Option ℕ
+after_key key s at = cond (starts_with key (drop at s)) (Some (at + length key)) None
 
 -- whether a byte goes on with a number that is v so far: a digit, after which the number is below 4,294,967,300
 unfoldable pub goes_on : ℕ → ℕ → Bool
@@ -25,43 +27,24 @@ unfoldable pub more_count : ℕ → List ℕ → ℕ
 more_count v [] = zero
 more_count v (b ∷ t) = cond (goes_on v b) (suc (more_count (v * 10 + (b - 48)) t)) zero
 
--- the same from the first byte on: after a zero no more are read, and 4,294,967,296 stands for no digit at all
-unfoldable pub first_value : List ℕ → ℕ
-first_value [] = 4294967296
-first_value (b ∷ t) = cond (eqb b 48) 0 (cond (is_digit b) (more_value (b - 48) t) 4294967296)
+-- the same from the first byte on: after a zero no more are read, and where no digit stands there is no number
+unfoldable pub first_value : List ℕ → Option ℕ
+first_value [] = None
+first_value (b ∷ t) = cond (eqb b 48) (Some 0) (cond (is_digit b) (bounded (more_value (b - 48) t)) None)
 
 unfoldable pub first_count : List ℕ → ℕ
 first_count [] = zero
 first_count (b ∷ t) = cond (eqb b 48) 1 (cond (is_digit b) (suc (more_count (b - 48) t)) zero)
 
--- what `digit_value` tells of a digit
-pub record DigitValue (b r : ℕ) : Type 0 where
-  pub is : r ≡ b - 48
-  pub few : r ≤ 9
-
--- what `more_digits` and `first_digits` tell of the digits from a place on
-pub record MoreRead (s : List ℕ) (at value i v : ℕ) : Type 0 where
-  pub number : v ≡ more_value value (drop at s)
-  pub stop : i ≡ at + more_count value (drop at s)
-
-pub record FirstRead (s : List ℕ) (at i v : ℕ) : Type 0 where
-  pub number : v ≡ first_value (drop at s)
-  pub stop : i ≡ at + first_count (drop at s)
-
--- what `number` tells of the field at a place: the place after it, 0 where another byte ends it, and what it spells, none there
-unfoldable pub next_field : ℕ → ℕ → List ℕ → ℕ → ℕ
-next_field sep end s at = after_byte end s (stop_at sep s at)
-
-unfoldable pub field_number : ℕ → ℕ → List ℕ → ℕ → Spelled
-field_number sep end s at = cond (ends_by sep end s at) (number_of (field sep s at)) none
+-- the field at a place, if `end` ends it: what its text says to a reader, and the place after it
+unfoldable pub field_read : (List ℕ → Option ℕ) → ℕ → ℕ → List ℕ → ℕ → Option Field
+field_read says sep end s at = cond (ends_by sep end s at) (Some (record { value = says (field sep s at); next = after sep s at })) None
 
 -- how many bytes go on with a name
 unfoldable pub graphic_length : List ℕ → ℕ
 graphic_length [] = zero
 graphic_length (b ∷ t) = cond (is_graphic b) (suc (graphic_length t)) zero
 
--- what `graphic_line` tells of the text from a place up to the end of its line
-pub record GraphicRead (s : List ℕ) (at : ℕ) (all : Bool) (stop next : ℕ) : Type 0 where
-  pub fits : all ≡ ends_by 10 10 s at && all_graphic (field 10 s at)
-  pub far : stop ≡ at + graphic_length (drop at s)
-  pub past : next ≡ next_field 10 10 s at
+-- the text from a place up to the end of its line, if byte 10 ends it
+unfoldable pub graphic_line : List ℕ → ℕ → Option GraphicLine
+graphic_line s at = cond (ends_by 10 10 s at) (Some (record { all = all_graphic (field 10 s at); stop = at + graphic_length (drop at s); next = after 10 s at })) None

@@ -2,28 +2,26 @@
 // no byte.
 #![tactic(auto)]
 
-ghost use Rattle.std.specs.Prelude.{◌≡◌, true, ◌+◌, ◌≤◌, ◌<◌, length, drop};
-ghost use Rattle.text.specs.Fields.{is_stop, stop_at, below};
-ghost use Rattle.text.specs.Steps.{after_byte, after_key, DigitValue, MoreRead, FirstRead, next_field, field_number, graphic_length, GraphicRead};
-ghost use Rattle.text.specs.Numbers.{is_digit, bounded};
+ghost use Rattle.std.specs.Prelude.{◌≡◌, true, not, ◌+◌, ◌≤◌, ◌<◌, length, drop, position};
+ghost use Rattle.text.specs.Fields.{is_stop, stop_at, is_graphic, below};
+ghost use Rattle.text.specs.Steps.{after_byte, after_key, more_value, more_count, first_value, first_count, field_read, graphic_line};
+ghost use Rattle.text.specs.Numbers.{bounded, number_of};
 
-// The number that a field spells, above 4,294,967,295 where it spells none, and the place after the byte that ends it: 0
-// where that is another byte than it should be, or none.
+// What a field says, if it says anything, and the place after the byte that ends it.
 #[derive(Clone, Copy)]
-pub struct NumberField {
-    pub value: u64,
+pub struct Field {
+    pub value: Option<u32>,
     pub next: usize,
 }
 
-// The number of some digits, and the place after them.
+// The number of some digits, if it is one, and the place after them.
 #[derive(Clone, Copy)]
 struct Run {
-    value: u64,
+    value: Option<u32>,
     stop: usize,
 }
 
-// Whether a line's text has only bytes from 33 to 126, the place of the first other byte, and the place after the line, 0
-// where byte 10 does not end it.
+// Whether a line's text has only bytes from 33 to 126, the place of the first other byte, and the place after the line.
 #[derive(Clone, Copy)]
 pub struct GraphicLine {
     pub all: bool,
@@ -31,211 +29,160 @@ pub struct GraphicLine {
     pub next: usize,
 }
 
-fn u64_of_byte(b: u8) -> u64
-    ensures { result ≡ b }
+// The bytes from a place on.
+fn rest(s: &[u8], at: usize) -> &[u8]
+    ensures { result.now ≡ drop at s.now }
 {
-    b as u64
+    s.get(at..).unwrap_or(&[])
 }
 
-// The place after this byte, if it stands at a place, and 0 if not.
-pub fn after_byte(s: &[u8], at: usize, byte: u8) -> usize
+// The place after this byte, if it stands at a place.
+#[tactic(auto, using(crate::proofs::Places::byte_past, crate::proofs::Places::byte_is, crate::proofs::Places::byte_other))]
+pub fn after_byte(s: &[u8], at: usize, byte: u8) -> Option<usize>
     ensures { result ≡ after_byte byte s.now at }
 {
-    if s.len() <= at {
-        return 0;
+    if *s.get(at)? == byte {
+        Some(at + 1)
+    } else {
+        None
     }
-    if s[at] == byte {
-        return at + 1;
-    }
-    0
 }
 
+#[tactic(auto, unfolding(crate::specs::Fields::is_stop))]
 fn is_stop(b: u8, sep: u8) -> bool
-    requires { sep ≤ 32 }
     ensures { result ≡ is_stop sep b }
 {
-    if 32 < b {
-        return false;
-    }
-    if b == sep {
-        return true;
-    }
-    b == 10
+    b == sep || b == b'\n'
+}
+
+fn first_stop(t: &[u8], sep: u8) -> Option<usize>
+    ensures { result ≡ position (is_stop sep) t.now }
+{
+    t.iter().position(|b| is_stop(*b, sep))
 }
 
 // The place of the first byte `sep` or byte 10 from a place on, or the end.
+#[tactic(auto, using(crate::proofs::Stops::stop_found))]
 pub fn stop_at(s: &[u8], at: usize, sep: u8) -> usize
     requires { sep ≤ 32 }
     ensures { result ≡ stop_at sep s.now at }
 {
-    let mut i = at;
-    while i < s.len() {
-        if is_stop(s[i], sep) {
-            return i;
-        }
-        i += 1;
-    }
-    i
+    let rest = rest(s, at);
+    at + first_stop(rest, sep).unwrap_or(rest.len())
 }
 
-fn is_digit(b: u8) -> bool
-    ensures { result ≡ is_digit b }
+#[tactic(auto, unfolding(crate::specs::Numbers::bounded))]
+fn bounded(value: u64) -> Option<u32>
+    ensures { result ≡ bounded value }
 {
-    if b < 48 {
-        return false;
-    }
-    b <= 57
+    u32::try_from(value).ok()
 }
 
-fn digit_value(b: u8) -> u64
-    requires { is_digit b ≡ true }
-    ensures { DigitValue b result }
+// The digits after a first one, as far as the number is below 4,294,967,300. By place: slices of what is left were tried, and take 55
+// instructions a row more, of 235.
+fn more_digits(s: &[u8], at: usize, first: u64) -> Run
+    requires { first ≤ 9 }
+    ensures value { result.value ≡ bounded (more_value first (drop at s.now)) }
+    ensures stop { result.stop ≡ at + more_count first (drop at s.now) }
 {
-    u64_of_byte(b) - 48
-}
-
-// The digits after some whose number is `value`, as far as the number is below 4,294,967,300.
-fn more_digits(s: &[u8], at: usize, value: u64) -> Run
-    requires { value ≤ 9 }
-    ensures { MoreRead s.now at value result.stop result.value }
-{
-    let mut i = at;
-    let mut v = value;
-    while i < s.len() {
-        let b = s[i];
-        if !is_digit(b) {
-            return Run { value: v, stop: i };
+    let mut value = first;
+    for stop in at..s.len() {
+        let b = s[stop];
+        if !b.is_ascii_digit() || 429496729 < value {
+            return Run {
+                value: bounded(value),
+                stop,
+            };
         }
-        if 429496729 < v {
-            return Run { value: v, stop: i };
-        }
-        v = v * 10 + digit_value(b);
-        i += 1;
+        value = value * 10 + u64::from(b - b'0');
     }
-    Run { value: v, stop: i }
+    Run {
+        value: bounded(value),
+        stop: at.max(s.len()),
+    }
 }
 
 // The digits from a place on: none where no digit stands there, and no more after a zero.
+#[tactic(auto, using(crate::proofs::Runs::zero_value, crate::proofs::Runs::zero_count))]
 fn first_digits(s: &[u8], at: usize) -> Run
-    ensures { FirstRead s.now at result.stop result.value }
+    ensures value { result.value ≡ first_value (drop at s.now) }
+    ensures stop { result.stop ≡ at + first_count (drop at s.now) }
 {
-    if s.len() <= at {
-        return Run {
-            value: 4294967296,
-            stop: at,
-        };
-    }
-    let b = s[at];
-    if b == 48 {
-        return Run {
-            value: 0,
+    match s.get(at) {
+        Some(b'0') => Run {
+            value: Some(0),
             stop: at + 1,
-        };
-    }
-    if is_digit(b) {
-        return more_digits(s, at + 1, digit_value(b));
-    }
-    Run {
-        value: 4294967296,
-        stop: at,
+        },
+        Some(b) if b.is_ascii_digit() => more_digits(s, at + 1, u64::from(*b - b'0')),
+        _ => Run {
+            value: None,
+            stop: at,
+        },
     }
 }
 
-// The number that the field at a place spells.
-pub fn number(s: &[u8], at: usize, sep: u8, end: u8) -> NumberField
+// The field at a place, with the number that it spells.
+pub fn number(s: &[u8], at: usize, sep: u8, end: u8) -> Option<Field>
     requires { (sep ≤ 32) × (is_stop sep end ≡ true) }
-    ensures next_value { result.next ≡ next_field sep end s.now at }
-    ensures value_value { bounded result.value ≡ field_number sep end s.now at }
+    ensures { result ≡ field_read number_of sep end s.now at }
 {
     let read = first_digits(s, at);
-    let stop = read.stop;
-    let next = after_byte(s, stop, end);
-    if next != 0 {
-        return NumberField {
+    if let Some(next) = after_byte(s, read.stop, end) {
+        return Some(Field {
             value: read.value,
-            next: next,
-        };
+            next,
+        });
     }
-    let far = stop_at(s, stop, sep);
-    NumberField {
-        value: 4294967296,
-        next: after_byte(s, far, end),
-    }
+    // The field has other bytes after these digits, so that it spells no number, or `end` does not end it.
+    let next = after_byte(s, stop_at(s, read.stop, sep), end)?;
+    Some(Field { value: None, next })
 }
 
-// The place after a key, if it stands at a place, and 0 if not.
-pub fn after_key(s: &[u8], at: usize, key: &[u8]) -> usize
+// The place after a key, if it stands at a place.
+#[tactic(auto, using(crate::proofs::Places::begins, crate::proofs::Places::key_is, crate::proofs::Places::key_other))]
+pub fn after_key(s: &[u8], at: usize, key: &[u8]) -> Option<usize>
     requires { 0 < length key.now }
     ensures { result ≡ after_key key.now s.now at }
 {
-    if s.len() < key.len() {
-        return 0;
+    if rest(s, at).starts_with(key) {
+        Some(at + key.len())
+    } else {
+        None
     }
-    if s.len() - key.len() < at {
-        return 0;
-    }
-    let mut i = 0;
-    while i < key.len() {
-        if key[i] != s[at + i] {
-            return 0;
-        }
-        i += 1;
-    }
-    at + key.len()
 }
 
-// The place of the first byte outside 33..126 from a place on, or the end.
-fn graphic_stop(s: &[u8], at: usize) -> usize
-    ensures { result ≡ at + graphic_length (drop at s.now) }
+#[tactic(auto, unfolding(crate::specs::Fields::is_graphic))]
+fn first_not_graphic(t: &[u8]) -> Option<usize>
+    ensures { result ≡ position (λ b. not (is_graphic b)) t.now }
 {
-    let mut i = at;
-    while i < s.len() {
-        let b = s[i];
-        if b < 33 {
-            return i;
-        }
-        if 126 < b {
-            return i;
-        }
-        i += 1;
-    }
-    i
+    t.iter().position(|b| !b.is_ascii_graphic())
 }
 
-// The text from a place up to the end of its line.
-pub fn graphic_line(s: &[u8], at: usize) -> GraphicLine
-    ensures { GraphicRead s.now at result.all result.stop result.next }
+// The text from a place up to the end of its line, if byte 10 ends it.
+pub fn graphic_line(s: &[u8], at: usize) -> Option<GraphicLine>
+    ensures { result ≡ graphic_line s.now at }
 {
-    let stop = graphic_stop(s, at);
-    let next = after_byte(s, stop, 10);
-    if next != 0 {
-        return GraphicLine {
+    let rest = rest(s, at);
+    let stop = at + first_not_graphic(rest).unwrap_or(rest.len());
+    if let Some(next) = after_byte(s, stop, b'\n') {
+        return Some(GraphicLine {
             all: true,
-            stop: stop,
-            next: next,
-        };
+            stop,
+            next,
+        });
     }
-    let far = stop_at(s, stop, 10);
-    GraphicLine {
+    let next = after_byte(s, stop_at(s, stop, b'\n'), b'\n')?;
+    Some(GraphicLine {
         all: false,
-        stop: stop,
-        next: after_byte(s, far, 10),
-    }
+        stop,
+        next,
+    })
 }
 
 // Whether the first text comes before the second in byte order.
+#[tactic(auto, using(crate::proofs::Order::in_order))]
 pub fn is_below(a: &[u8], b: &[u8]) -> bool
     ensures { result ≡ below a.now b.now }
 {
-    let mut i = 0;
-    while i < a.len() {
-        if b.len() <= i {
-            return false;
-        }
-        if a[i] != b[i] {
-            return a[i] < b[i];
-        }
-        i += 1;
-    }
-    i < b.len()
+    a < b
 }

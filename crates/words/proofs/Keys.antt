@@ -3,18 +3,20 @@
 use Prim.Native.Nat.{ℕ, zero, suc, ◌+◌, ◌-◌, ◌*◌, ◌≤◌, ◌<◌}
 use mathlib.Core.Path.{◌≡◌, refl, sym, ap, ◌∙◌}
 use mathlib.Core.Bool.{Bool, true, false, cond}
-use mathlib.Core.Logic.{◌⊎◌, inl, inr}
 use mathlib.Core.List.{List, [], ◌∷◌}
 use native.Mathlib.Nat.{add-zero, add-suc, add_assoc, mul-zero, mul_comm, mul_assoc, mul-add, mul-le-mul_right}
 use native.Mathlib.Numerals.{add-one}
 use native.Mathlib.Omega.{arith}
-use lib.ListN.{length, get_or, drop, drop_of_length-le}
+use lib.ListN.{length, length-take, get_or, take, drop, drop_of_length-le}
 use lib.Seq.{drop-cons}
 use lib.Dec.{leb}
-use borrow.Author.Tests.{leb-true, leb-false, le-leb, lt-leb}
+use borrow.Author.Tests.{leb-true}
 use mir.Val.{Fits}
 use mir.Syntax.{w64}
-use Rattle.words.specs.Steps.{key, letters, is_letter, letters_up_to, letters_of, twelve_from, KeyTold}
+use Rattle.std.specs.Prelude.{min}
+use Rattle.std.proofs.lemmas.List.{take_min}
+use Rattle.std.specs.Char.{is_ascii_lowercase}
+use Rattle.words.specs.Steps.{key, letters, is_letter, letters_up_to, letters_of}
 use Rattle.kinds.proofs.Below.{both_true}
 
 record Letter (b : ℕ) : Type 0 where
@@ -74,33 +76,32 @@ whole_word (suc n) (b ∷ w) p h =
     let s = both_true (is_letter b) (letters w) p in
     one_more n b w s.0 ∙ ap suc (whole_word n w s.1 (omega arith))
 
--- the place where the reading ends at the latest
-module _ (size at : ℕ) where
-  pub twelve_past : size < at → size ≡ twelve_from size at
-  unfolding twelve_from
-  twelve_past h = rw (lt-leb (at + 12) size (omega arith))
+-- twelve bytes at the front have the letters that are read
+front_count : (n : ℕ) (t : List ℕ) → letters_up_to n (take n t) ≡ letters_up_to n t
+unfolding letters_up_to
+front_count zero t = refl
+front_count (suc n) [] = refl
+front_count (suc n) (b ∷ t) = rw (front_count n t)
 
-  module _ (h : at ≤ size) where
-    pub twelve_short : size - at < 12 → size ≡ twelve_from size at
-    unfolding twelve_from
-    twelve_short l = rw (lt-leb (at + 12) size (omega arith))
-
-    pub twelve_all : 12 ≤ size - at → at + 12 ≡ twelve_from size at
-    unfolding twelve_from
-    twelve_all l = rw (le-leb (at + 12) size (omega arith))
-
-record Latest (size at end : ℕ) : Type 0 where
-  within : end ≤ size
-  few : end ≤ at + 12
-  either : (end ≡ size) ⊎ (end ≡ at + 12)
-
-latest : (size at end : ℕ) → end ≡ twelve_from size at → Latest size at end
-unfolding twelve_from
-latest size at end e = go (leb (at + 12) size) refl e
+front_letters : (n : ℕ) (t : List ℕ) → letters_of n (take n t) ≡ letters_of n t
+unfolding letters_up_to
+front_letters zero t = refl
+front_letters (suc n) [] = refl
+front_letters (suc n) (b ∷ t) = go (is_letter b) (front_letters n t)
   where
-    go : (b : Bool) → leb (at + 12) size ≡ b → end ≡ cond b (at + 12) size → Latest size at end
-    go true q p = record { within = omega (arith, leb-true (at + 12) size q); few = omega arith; either = inr p }
-    go false q p = record { within = omega arith; few = omega (arith, leb-false (at + 12) size q); either = inl p }
+    go : (l : Bool) → letters_of n (take n t) ≡ letters_of n t → take (cond l (suc (letters_up_to n (take n t))) 0) (b ∷ take n t) ≡ take (cond l (suc (letters_up_to n t)) 0) (b ∷ t)
+    go true ih = ap (λ (u : List ℕ). b ∷ u) ih
+    go false ih = refl
+
+pub few : (n : ℕ) (t : List ℕ) → letters_up_to n t ≤ length t
+unfolding letters_up_to
+few zero t = omega arith
+few (suc n) [] = omega arith
+few (suc n) (b ∷ t) = go (is_letter b) (few n t)
+  where
+    go : (l : Bool) → letters_up_to n t ≤ length t → cond l (suc (letters_up_to n t)) 0 ≤ suc (length t)
+    go true h = omega arith
+    go false h = omega arith
 
 -- what a letter after n others counts for in a key
 unfoldable pub bound : ℕ → ℕ
@@ -121,92 +122,89 @@ few_bound n h =
 step : (v c d k : ℕ) → v + c * (d + 32 * k) ≡ v + d * c + c * 32 * k
 step v c d k = rw (mul-add c d (32 * k), mul_comm c d, ← mul_assoc c 32 k) (sym (add_assoc v (d * c) (c * 32 * k)))
 
--- what the reading of letters knows at place i: the key of the letters passed, and what a letter there adds to it
-pub record Spelling (s : List ℕ) (at i value scale : ℕ) : Type 0 where
-  pub from : at ≤ i
-  pub scaled : scale ≡ bound (i - at)
+-- what the reading of letters knows after i of them: the key of the letters passed, and what a letter there adds to it
+pub record Spelling (t : List ℕ) (i value scale : ℕ) : Type 0 where
+  pub scaled : scale ≡ bound i
   pub small : value < scale
-  pub is : key (letters_of 12 (drop at s)) ≡ value + scale * key (letters_of (at + 12 - i) (drop i s))
-  pub past : at + letters_up_to 12 (drop at s) ≡ i + letters_up_to (at + 12 - i) (drop i s)
+  pub is : key (letters_of 12 t) ≡ value + scale * key (letters_of (12 - i) (drop i t))
+  pub count : letters_up_to 12 t ≡ i + letters_up_to (12 - i) (drop i t)
 
-pub spell_start : (s : List ℕ) (at : ℕ) → Spelling s at at 0 1
+pub spell_start : (t : List ℕ) → Spelling t 0 0 1
 unfolding bound
-spell_start s at =
-    let z : at - at ≡ 0 = omega arith in
-    let t : at + 12 - at ≡ 12 = omega arith in
-    record { from = omega arith; scaled = rw z; small = omega arith; is = rw t (omega arith); past = rw t }
+spell_start t = record { scaled = refl; small = omega arith; is = omega arith; count = omega arith }
 
-module _ (s : List ℕ) (at i value scale : ℕ) (w : Spelling s at i value scale) where
+-- what it tells of the whole once it ends, and of the list whose first twelve bytes they are
+pub record Spelled (t : List ℕ) (i value : ℕ) : Type 0 where
+  pub value_is : value ≡ key (letters_of 12 t)
+  pub count_is : i ≡ letters_up_to 12 t
+
+pub front_few : (n : ℕ) (t : List ℕ) → n ≡ min (length t) 12 → length (take n t) ≤ 12
+front_few n t e = omega (arith, length-take n t)
+
+pub of_front : (t u : List ℕ) (i value : ℕ) → u ≡ take (min (length t) 12) t → Spelled u i value → Spelled t i value
+of_front t u i value e w =
+    let m : min (length t) 12 ≡ min 12 (length t) = omega arith in
+    let f : u ≡ take 12 t = e ∙ rw m (take_min 12 t) in
+    record { value_is = w.value_is ∙ rw f (ap key (front_letters 12 t)); count_is = w.count_is ∙ rw f (front_count 12 t) }
+
+module _ (t : List ℕ) (i value scale : ℕ) (w : Spelling t i value scale) where
   -- no letter is read from here on
-  ended : letters_up_to (at + 12 - i) (drop i s) ≡ 0 → KeyTold s at value i
+  ended : letters_up_to (12 - i) (drop i t) ≡ 0 → Spelled t i value
   unfolding key
-  ended z = record { is = sym (w.is ∙ rw (z, mul-zero, add-zero)); past = sym (w.past ∙ rw (z, add-zero)) }
+  ended z = record { value_is = sym (w.is ∙ rw (z, mul-zero, add-zero)); count_is = sym (w.count ∙ rw (z, add-zero)) }
 
-  module _ (end : ℕ) (e : end ≡ twelve_from (length s) at) where
-    pub spell_end : end ≤ i → KeyTold s at value i
-    unfolding letters_up_to
-    spell_end h = go (latest (length s) at end e).either
-      where
-        go : (end ≡ length s) ⊎ (end ≡ at + 12) → KeyTold s at value i
-        go (inl q) = let p : length s ≤ i = omega arith in ended (rw (drop_of_length-le s p) (none_left (at + 12 - i)))
-        go (inr q) = let z : at + 12 - i ≡ 0 = omega arith in ended (rw z)
+  pub spell_end : length t ≤ i → Spelled t i value
+  spell_end h = ended (rw (drop_of_length-le t h) (none_left (12 - i)))
 
-    module _ (h : i < end) where
-      pub spell_within : i < length s
-      spell_within = omega (arith, (latest (length s) at end e).within)
+  module _ (h : i < length t) (m : length t ≤ 12) (d : Bool) (q : d ≡ is_ascii_lowercase (get_or t i 0)) where
+    rest : ℕ
+    rest = 12 - (i + 1)
 
-      rest : ℕ
-      rest = at + 12 - (i + 1)
+    left : 12 - i ≡ suc rest
+    unfolding rest
+    left = omega arith
 
-      left : at + 12 - i ≡ suc rest
-      unfolding rest
-      left = omega (arith, (latest (length s) at end e).few)
+    b : ℕ
+    b = get_or t i 0
 
-      here : drop i s ≡ get_or s i 0 ∷ drop (i + 1) s
-      here = drop-cons s i 0 spell_within ∙ rw add-one
+    here : drop i t ≡ b ∷ drop (i + 1) t
+    unfolding b
+    here = drop-cons t i 0 h ∙ rw add-one
 
-      module _ (b : ℕ) (q : b ≡ get_or s i 0) where
-        stopped : is_letter b ≡ false → KeyTold s at value i
-        stopped n = ended (rw (left, here, ← q) (no_more rest b (drop (i + 1) s) n))
+    pub spell_stop : d ≡ false → Spelled t i value
+    unfolding is_letter b
+    spell_stop e = ended (rw (left, here) (no_more rest b (drop (i + 1) t) (sym q ∙ e)))
 
-        pub spell_low : b < 97 → KeyTold s at value i
-        unfolding is_letter
-        spell_low l = stopped (rw (lt-leb 97 b l))
+    module _ (e : d ≡ true) where
+      is_letter_lem : is_letter b ≡ true
+      unfolding is_letter b
+      is_letter_lem = sym q ∙ e
 
-        pub spell_high : 97 ≤ b → 122 < b → KeyTold s at value i
-        unfolding is_letter
-        spell_high l g = stopped (rw (le-leb 97 b l, lt-leb b 122 g))
+      room : scale ≤ 36028797018963968
+      room = rw w.scaled (few_bound i (omega arith))
 
-        module _ (l : 97 ≤ b) (g : b ≤ 122) where
-          is_letter_lem : is_letter b ≡ true
-          unfolding is_letter
-          is_letter_lem = rw (le-leb 97 b l, le-leb b 122 g)
+      product : (b - 96) * scale ≤ 26 * scale
+      product = mul-le-mul_right scale (omega (arith, (letter b is_letter_lem).high))
 
-          room : scale ≤ 36028797018963968
-          room = rw w.scaled (few_bound (i - at) (omega (arith, (latest (length s) at end e).few)))
+      pub spell_product : Fits w64 ((get_or t i 0 - 96) * scale)
+      unfolding b
+      spell_product = record { fits = omega (arith, product, room) }
 
-          product : (b - 96) * scale ≤ 26 * scale
-          product = mul-le-mul_right scale (omega arith)
+      pub spell_sum : Fits w64 (value + (get_or t i 0 - 96) * scale)
+      unfolding b
+      spell_sum = record { fits = omega (arith, product, room, w.small) }
 
-          pub spell_product : Fits w64 ((b - 96) * scale)
-          spell_product = record { fits = omega (arith, product, room) }
+      pub spell_scale : Fits w64 (scale * 32)
+      spell_scale = record { fits = omega (arith, room) }
 
-          pub spell_sum : Fits w64 (value + (b - 96) * scale)
-          spell_sum = record { fits = omega (arith, product, room, w.small) }
-
-          pub spell_scale : Fits w64 (scale * 32)
-          spell_scale = record { fits = omega (arith, room) }
-
-          pub spell_on : Spelling s at (i + 1) (value + (b - 96) * scale) (scale * 32)
-          unfolding bound rest key
-          spell_on =
-              let n : i + 1 - at ≡ suc (i - at) = omega (arith, w.from) in
-              record {
-                from = omega (arith, w.from);
-                scaled = rw n (omega (arith, w.scaled));
-                small = omega (arith, product, w.small);
-                is = w.is ∙ rw (left, here, ← q, one_more rest b (drop (i + 1) s) is_letter_lem) (step value scale (b - 96) _);
-                past = w.past ∙ rw (left, here, ← q, one_more rest b (drop (i + 1) s) is_letter_lem) (omega arith);
-              }
-
-pub ruleset answers = (twelve_past, twelve_short, twelve_all, spell_start, spell_end, spell_within, spell_low, spell_high, spell_product, spell_sum, spell_scale, spell_on)
+      pub spell_on : (n : ℕ) → n ≡ get_or t i 0 - 96 → Spelling t (i + 1) (value + n * scale) (scale * 32)
+      unfolding bound rest key b
+      spell_on n p =
+          let z : i + 1 ≡ suc i = omega arith in
+          rw p
+          (record {
+            scaled = rw z (omega (arith, w.scaled));
+            small = omega (arith, product, w.small);
+            is = w.is ∙ rw (left, here, one_more rest b (drop (i + 1) t) is_letter_lem) (step value scale (b - 96) _);
+            count = w.count ∙ rw (left, here, one_more rest b (drop (i + 1) t) is_letter_lem) (omega arith);
+          })

@@ -1,7 +1,6 @@
 -- The keys by which the code finds a word, and how it reads them. Nothing here is document 01's: that a key finds the kind of a word is
 -- proved in proofs/Words.
-use Rattle.std.specs.Prelude.{ℕ, zero, suc, ◌+◌, ◌-◌, ◌*◌, ◌≡◌, Bool, true, cond, ◌&&◌, List, [], ◌∷◌, take, drop, leb}
-use Rattle.kinds.specs.declared.Found.{Found}
+use Rattle.std.specs.Prelude.{ℕ, zero, suc, ◌+◌, ◌-◌, ◌*◌, ◌≡◌, Bool, true, cond, ◌&&◌, Option, List, [], ◌∷◌, take, drop, leb}
 use Rattle.kinds.specs.Words.{kind_of}
 
 -- five bits a letter, the first letter lowest
@@ -26,15 +25,7 @@ letters_up_to (suc n) (b ∷ t) = cond (is_letter b) (suc (letters_up_to n t)) z
 abbrev pub letters_of : ℕ → List ℕ → List ℕ
 letters_of n t = take (letters_up_to n t) t
 
--- the place twelve bytes on, or the end where that comes first
-unfoldable pub twelve_from : ℕ → ℕ → ℕ
-twelve_from size at = cond (leb (at + 12) size) (at + 12) size
-
--- what `key_at` and `find_kind_at` tell of the letters from a place on
-pub record KeyTold (s : List ℕ) (at value stop : ℕ) : Type 0 where
-  pub is : value ≡ key (letters_of 12 (drop at s))
-  pub past : stop ≡ at + letters_up_to 12 (drop at s)
-
-pub record KindTold (s : List ℕ) (at : ℕ) (kind : Found) (stop : ℕ) : Type 0 where
+-- what `find_kind_at` tells of the letters from a place on
+pub record KindTold (s : List ℕ) (at : ℕ) (kind : Option ℕ) (stop : ℕ) : Type 0 where
   pub word : kind ≡ kind_of (letters_of 12 (drop at s))
   pub past : stop ≡ at + letters_up_to 12 (drop at s)

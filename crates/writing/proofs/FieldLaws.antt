@@ -6,10 +6,9 @@ use native.Mathlib.Omega.{arith}
 use lib.ListN.{length, length-append}
 use Rattle.writing.specs.Spelling.{spelled, field_text}
 use Rattle.writing.specs.Putting.{PutAt}
-use Rattle.writing.proofs.Puts.{put_then, put_kept}
 use Rattle.writing.proofs.Spellings.{spelled_few}
 
-field_length_lem : (key : List ℕ) (n end : ℕ) → length (field_text key (spelled n) end) ≡ length key + length (spelled n) + 1
+pub field_length_lem : (key : List ℕ) (n end : ℕ) → length (field_text key (spelled n) end) ≡ length key + length (spelled n) + 1
 unfolding field_text
 field_length_lem key n end = simp length-append (omega arith)
 
@@ -17,20 +16,6 @@ field_length_lem key n end = simp length-append (omega arith)
 pub field_fits : (at : ℕ) (key : List ℕ) (n end room : ℕ) → at + length key + 21 ≤ room → at + length (field_text key (spelled n) end) ≤ room
 field_fits at key n end room h = omega (arith, field_length_lem key n end, spelled_few n)
 
-module _ (at : ℕ) (key : List ℕ) (n end : ℕ) (out : List ℕ) (h : at + length (field_text key (spelled n) end) ≤ length out) where
-  pub key_fits : at + length key ≤ length out
-  key_fits = omega (arith, field_length_lem key n end)
-
-  -- after the key
-  pub number_fits : (o : List ℕ) (r : ℕ) → PutAt out at key o r → r + length (spelled n) ≤ length o
-  number_fits o r w = omega (arith, field_length_lem key n end, w.place, put_kept out o at r key w)
-
-  -- after the number
-  pub end_fits : (o p : List ℕ) (r s : ℕ) → PutAt out at key o r → PutAt o r (spelled n) p s → s + 1 ≤ length p
-  end_fits o p r s w v = omega (arith, field_length_lem key n end, w.place, v.place, put_kept out o at r key w, put_kept o p r s (spelled n) v)
-
 -- after the byte that ends them
 pub field_short : (out o p q : List ℕ) (at r s u : ℕ) (key : List ℕ) (n end : ℕ) → PutAt p s (end ∷ []) q u → PutAt o r (spelled n) p s → PutAt out at key o r → u ≤ at + length key + 21
 field_short out o p q at r s u key n end x v w = omega (arith, x.place, v.place, w.place, spelled_few n)
-
-pub ruleset answers = (key_fits, number_fits, end_fits, put_then, field_short)

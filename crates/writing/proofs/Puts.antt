@@ -1,13 +1,13 @@
 -- Numbers or bytes put into a slice, one by one and one text after the other: what is put so far, with what is left, is what the whole puts. The
 -- places left fall.
-use Prim.Native.Nat.{ℕ, suc, ◌+◌, ◌≤◌, ◌<◌}
+use Prim.Native.Nat.{ℕ, suc, ◌+◌, ◌-◌, ◌≤◌}
 use mathlib.Core.Path.{◌≡◌, refl, sym, ap, ◌∙◌}
-use mathlib.Core.List.{List, [], ◌∷◌, ◌++◌}
+use mathlib.Core.List.{List, [], ◌∷◌, ◌++◌, append_assoc}
 use native.Mathlib.Nat.{add-zero}
-use native.Mathlib.Numerals.{add-one}
 use native.Mathlib.Omega.{arith}
-use lib.ListN.{length, get_or, set, take, drop, length-set, length-append, drop_of_length-le}
-use lib.Seq.{drop-cons, length-sets, sets-eq, length-take-le, take_at, take-append_seam}
+use lib.ListN.{length, set, take, drop, length-append}
+use lib.Seq.{length-sets, sets-eq, length-take-le, take_at, take-append_seam}
+use borrow.Rule.Slice.PartMut.{post_of, put_mid, Post-is}
 use Rattle.writing.specs.Putting.{put, PutAt}
 
 put_put : (out : List ℕ) (at : ℕ) (a b : List ℕ) → put (put out at a) (at + length a) b ≡ put out at (a ++ b)
@@ -45,26 +45,8 @@ put_front out o r text w h = let e : r ≡ length text = omega (arith, w.place) 
 pub put_one : (out : List ℕ) (at byte : ℕ) → PutAt out at (byte ∷ []) (set out at byte) (at + 1)
 put_one out at byte = record { place = refl; bytes = refl }
 
--- what the putting of a text knows at byte i of the text
-pub record Putting (out₀ : List ℕ) (at : ℕ) (text out : List ℕ) (i : ℕ) : Type 0 where
-  pub size : length out ≡ length out₀
-  pub few : i ≤ length text
-  pub same : put out₀ at text ≡ put out (at + i) (drop i text)
-
-pub put_start : (out : List ℕ) (at : ℕ) (text : List ℕ) → Putting out at text out 0
-put_start out at text = record { size = refl; few = omega arith; same = rw add-zero }
-
-module _ {out₀ : List ℕ} {at : ℕ} {text out : List ℕ} {i : ℕ} (w : Putting out₀ at text out i) where
-  pub put_on : i < length text → Putting out₀ at text (set out (at + i) (get_or text i 0)) (i + 1)
-  put_on h =
-      let e : at + (i + 1) ≡ suc (at + i) = omega arith in
-      record {
-        size = length-set out (at + i) (get_or text i 0) ∙ w.size;
-        few = omega arith;
-        same = w.same ∙ rw (e, add-one i, drop-cons text i 0 h);
-      }
-
-  pub put_end : length text ≤ i → PutAt out₀ at text out (at + i)
-  put_end h = record { place = omega (arith, w.few); bytes = sym (w.same ∙ rw (drop_of_length-le text h)) }
-
-pub ruleset answers = (put_one, put_start, put_on, put_end)
+-- a text copied over the part of a slice that begins at a place and is as long
+pub put_part : (out text copied : List ℕ) (at : ℕ) → copied ≡ text → at + length text ≤ length out → PutAt out at text (put_mid at (at + length text - at) out copied) (at + length text)
+put_part out text copied at e h =
+    let k : post_of at (at + length text - at) out ≡ drop (at + length text) out = Post-is at (at + length text) out (omega arith) in
+    record { place = refl; bytes = ap (λ l. take at out ++ (copied ++ l)) k ∙ rw e (sym (append_assoc (take at out) text _) ∙ sym (sets-eq text out at h)) }

@@ -7,7 +7,8 @@ use mathlib.Core.List.{List, [], ◌∷◌, ◌++◌}
 use native.Mathlib.Omega.{arith}
 use lib.Dec.{leb}
 use borrow.Author.Tests.{leb-true, leb-false, le-leb, ne_eqb}
-use Rattle.text.specs.Numbers.{is, is_digit, all_digits, is_empty, zero_first, decimal, bounded, number_of}
+use Rattle.std.specs.Prelude.{Some}
+use Rattle.text.specs.Numbers.{is_digit, all_digits, is_empty, zero_first, decimal, bounded, number_of}
 use Rattle.writing.specs.Spelling.{digit_of, spelled_by, spelled}
 use Rattle.writing.proofs.Spellings.{by_last, by_more, tenth}
 
@@ -97,6 +98,6 @@ pub spelled_value : (n : ℕ) → n < 18446744073709551616 → decimal 0 (spelle
 spelled_value n h = (spells n (omega arith)).value
 
 -- each number up to the largest that document 01 reads is read back
-pub spelled_number : (n : ℕ) → n ≤ 4294967295 → number_of (spelled n) ≡ is n
+pub spelled_number : (n : ℕ) → n ≤ 4294967295 → number_of (spelled n) ≡ Some n
 unfolding number_of bounded
 spelled_number n h = let w = spells n (omega arith) in rw (w.some, w.plain, w.digits, w.value, le-leb n 4294967295 h)

@@ -1,3 +1,2 @@
 pub mod Spelling
 pub mod Putting
-pub mod Steps

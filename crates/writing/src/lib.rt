@@ -1,73 +1,76 @@
-// Texts and numbers put into a slice of bytes that the caller lends, from a place on. Each `put` answers the place after what it put.
+// Texts and numbers put one after the other into a text that has room for 128 bytes.
 #![tactic(auto)]
 
-ghost use Rattle.std.specs.Prelude.{◌≡◌, [], ◌∷◌, ◌+◌, ◌≤◌, length};
-ghost use Rattle.writing.specs.Spelling.{digit_of, spelled, field_text};
+ghost use Rattle.std.specs.Prelude.{◌≡◌, [], ◌∷◌, ◌+◌, ◌≤◌, length, take, replicate};
+ghost use Rattle.writing.specs.Spelling.{spelled, field_text};
 ghost use Rattle.writing.specs.Putting.{PutAt};
-ghost use Rattle.writing.specs.Steps.{Digits};
 
-// One byte.
-pub fn put_byte(out: &mut [u8], at: usize, byte: u8) -> usize
-    requires { at + 1 ≤ length out.old }
-    ensures { PutAt out.old at (byte ∷ []) out.new result }
-{
-    out[at] = byte;
-    at + 1
+use itoa::Buffer;
+
+pub const ROOM: usize = 128;
+
+// A buffer, and how many of its bytes are put so far. It is no arrayvec, of which no clause tells what stands after the items: whoever has a
+// text is promised the zeros there (`filled_text` of `answers`).
+#[derive(Drop)]
+pub struct Text {
+    pub bytes: [u8; ROOM],
+    pub size: usize,
 }
 
-// A text.
-pub fn put_text(out: &mut [u8], at: usize, text: &[u8]) -> usize
-    requires { at + length text.now ≤ length out.old }
-    ensures { PutAt out.old at text.now out.new result }
-{
-    let mut i = 0;
-    while i < text.len() {
-        out[at + i] = text[i];
-        i += 1;
+impl Text {
+    // No byte yet.
+    pub fn new() -> Self
+        ensures bytes { result.bytes ≡ replicate 128 0 }
+        ensures size { result.size ≡ 0 }
+    {
+        Text {
+            bytes: [0; ROOM],
+            size: 0,
+        }
     }
-    at + i
-}
 
-fn digit(n: usize) -> u8
-    ensures { result ≡ digit_of n }
-{
-    48 + (n % 10) as u8
-}
-
-// The digits of a number, at the end of 20 bytes. The answer is the place of the first.
-fn digits(n: usize, bytes: &mut [u8]) -> usize
-    requires { length bytes.old ≡ 20 }
-    ensures { Digits n result bytes.new }
-{
-    let mut from = 20;
-    let mut rest = n;
-    while 9 < rest {
-        from -= 1;
-        bytes[from] = digit(rest);
-        rest = rest / 10;
+    pub fn as_bytes(&self) -> &[u8]
+        requires { self.now.size ≤ 128 }
+        ensures { result.now ≡ take self.now.size self.now.bytes }
+    {
+        &self.bytes[..self.size]
     }
-    from -= 1;
-    bytes[from] = digit(rest);
-    from
-}
 
-// The decimal text of a number.
-fn put_number(out: &mut [u8], at: usize, n: usize) -> usize
-    requires { at + length (spelled n) ≤ length out.old }
-    ensures { PutAt out.old at (spelled n) out.new result }
-{
-    let mut bytes = [0u8; 20];
-    let from = digits(n, &mut bytes);
-    put_text(out, at, &bytes[from..])
-}
+    pub fn put_byte(&mut self, byte: u8)
+        requires { self.old.size + 1 ≤ 128 }
+        ensures { PutAt self.old.bytes self.old.size (byte ∷ []) self.new.bytes self.new.size }
+    {
+        self.bytes[self.size] = byte;
+        self.size += 1;
+    }
 
-// A key, the number that is its value, and a byte that ends them: a number has at most 20 digits.
-pub fn put_field(out: &mut [u8], at: usize, key: &[u8], n: usize, end: u8) -> usize
-    requires { at + length (field_text key.now (spelled n) end) ≤ length out.old }
-    ensures put_at { PutAt out.old at (field_text key.now (spelled n) end) out.new result }
-    ensures short { result ≤ at + length key.now + 21 }
-{
-    let value = put_text(out, at, key);
-    let stop = put_number(out, value, n);
-    put_byte(out, stop, end)
+    pub fn put_text(&mut self, text: &[u8])
+        requires { self.old.size + length text.now ≤ 128 }
+        ensures { PutAt self.old.bytes self.old.size text.now self.new.bytes self.new.size }
+    {
+        let end = self.size + text.len();
+        let all = &mut self.bytes[..];
+        all[self.size..end].copy_from_slice(text);
+        self.size = end;
+    }
+
+    // The decimal text of a number.
+    fn put_number(&mut self, n: usize)
+        requires { self.old.size + length (spelled n) ≤ 128 }
+        ensures { PutAt self.old.bytes self.old.size (spelled n) self.new.bytes self.new.size }
+    {
+        let mut buffer = Buffer::new();
+        self.put_text(buffer.format(n).as_bytes());
+    }
+
+    // A key, the number that is its value, and a byte that ends them: a number has at most 20 digits.
+    pub fn put_field(&mut self, key: &[u8], n: usize, end: u8)
+        requires { self.old.size + length (field_text key.now (spelled n) end) ≤ 128 }
+        ensures put_at { PutAt self.old.bytes self.old.size (field_text key.now (spelled n) end) self.new.bytes self.new.size }
+        ensures short { self.new.size ≤ self.old.size + length key.now + 21 }
+    {
+        self.put_text(key);
+        self.put_number(n);
+        self.put_byte(end);
+    }
 }

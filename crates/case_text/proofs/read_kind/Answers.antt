@@ -1,8 +1,7 @@
-use Rattle.case_text.proofs.RowLaws.{answers}
+-- A kind's number is below 66.
+use Rattle.std.proofs.Common.{rules}
+use Rattle.case_text.proofs.KindFields.{kind_told}
 use Rattle.case_text.proofs.read_kind.Goals as goal
 
-pub returns-then-k-eq66 : goal.returns-then-k-eq66
-returns-then-k-eq66 c = search answers
-
 pub returns : goal.returns
-returns c = search answers
+returns c = search (rules, kind_told)

@@ -1,5 +1,5 @@
 use borrow.Author.Rules.{rules}
-use Rattle.da_rows.proofs.Parts.{labels}
+use Rattle.da_rows.proofs.Parts.{arm_labels}
 use Rattle.da_rows.proofs.unless_arm_read.Statement.{statement}
 use Rattle.da_rows.proofs.unless_arm_read.Tie as tie
 
@@ -11,4 +11,4 @@ unless_arm_read_spec =
     (λ c. search rules)
     (λ c κs. search rules)
     (λ c κs. search rules)
-    (λ c. search labels))
+    (λ c. search (rules, arm_labels)))

@@ -1,9 +1,6 @@
--- What the loop keeps: the input has given some bytes. What falls: how many digits may still come.
+-- What the loop keeps: the input has given some bytes.
 use Rattle.frames.specs.Inputs.{Advances}
 use Rattle.frames.proofs.rest_of_size.Given as goal
 
-abbrev pub invariant-loop-left : goal.invariant-loop-left
-invariant-loop-left g l = Advances (g.R.Read.remaining l.initial.input) (g.R.Read.remaining l.input)
-
-abbrev pub decreases-loop-left : goal.decreases-loop-left
-decreases-loop-left g l = l.left
+abbrev pub invariant-loop : goal.invariant-loop
+invariant-loop g l = Advances (g.R.Read.remaining l.initial.input) (g.R.Read.remaining l.input)

@@ -1,0 +1,5 @@
+use Rattle.ask.proofs.Checking.{table_statement}
+use Rattle.ask.proofs.walk.Goals as goal
+
+pub da_stmt-requires : goal.da_stmt-requires
+da_stmt-requires c = table_statement c.args.record _ c.requires

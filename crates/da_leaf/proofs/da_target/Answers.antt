@@ -1,0 +1,5 @@
+use Rattle.da_leaf.proofs.Targets.{targets}
+use Rattle.da_leaf.proofs.da_target.Goals as goal
+
+pub returns : goal.returns
+returns c = search targets

@@ -1,7 +1,0 @@
-use borrow.Author.Rules.{rules}
-use Rattle.words.proofs.Words.{answers}
-use Rattle.words.proofs.find_kind_at.Statement.{statement}
-use Rattle.words.proofs.find_kind_at.Tie as tie
-
-pub find_kind_at_spec : {M : Type 1} → statement M
-find_kind_at_spec = tie.close (tie.spec (λ c κs. search rules) (λ c κs. search rules) (λ c. search answers))

@@ -1,0 +1,7 @@
+-- What is copied over a part of the buffer is put there.
+use Rattle.std.proofs.Common.{rules}
+use Rattle.writing.proofs.Puts.{put_part}
+use Rattle.writing.proofs.Text.put_text.Goals as goal
+
+pub returns : goal.returns
+returns c = search (rules, put_part)
