@@ -48,6 +48,7 @@ struct Parts {
 }
 
 // The line `key` with a number from low to high.
+#[tactic(auto, using(crate::proofs::NumberLaws::line_line, crate::proofs::NumberLaws::number_key, crate::proofs::NumberLaws::number_end, crate::proofs::NumberLaws::number_large))]
 pub fn number_line(
     s: &[u8],
     at: usize,
@@ -71,6 +72,7 @@ pub fn number_line(
 }
 
 // 1 for a name that begins as a loop jump's does.
+#[tactic(auto, using(crate::proofs::NameLaws::mark_break, crate::proofs::NameLaws::mark_other))]
 fn jump_mark(name: &[u8]) -> u32
     ensures { result ≡ jump_mark name.now }
 {
@@ -78,6 +80,7 @@ fn jump_mark(name: &[u8]) -> u32
 }
 
 // A line's text of bytes from 33 to 126 as a name.
+#[tactic(auto, using(crate::proofs::NumberLaws::ranged_test, crate::proofs::NameLaws::name_told))]
 fn named(name: &[u8], before: &[u8], offset: usize, next: usize) -> Result<Line<Name>, Refusal>
     ensures { result ≡ name_of before.now name.now offset next }
 {
@@ -96,6 +99,7 @@ fn named(name: &[u8], before: &[u8], offset: usize, next: usize) -> Result<Line<
 }
 
 // The line `name=` with a name that is above the one before it.
+#[tactic(auto, using(text::proofs::FieldLaws::line_from, text::proofs::FieldLaws::line_within, crate::proofs::NameLaws::name_key, crate::proofs::NameLaws::name_end, crate::proofs::NameLaws::name_bytes, crate::proofs::NameLaws::name_is))]
 pub fn name_line(s: &[u8], at: usize, before: &[u8]) -> Result<Line<Name>, Refusal>
     ensures { result ≡ name_line before.now s.now at }
 {
@@ -124,6 +128,7 @@ fn kind_field(s: &[u8], at: usize) -> Option<Field>
 }
 
 // The five fields from a place on.
+#[tactic(auto, using(crate::proofs::NumberLaws::space_space, crate::proofs::NumberLaws::space_line, crate::proofs::RowLaws::uneven_word, crate::proofs::RowLaws::uneven_side, crate::proofs::RowLaws::five))]
 fn five_fields(s: &[u8], at: usize) -> Option<Parts>
     ensures { split_row result ≡ row_fields s.now at }
 {
@@ -143,6 +148,7 @@ fn five_fields(s: &[u8], at: usize) -> Option<Parts>
 }
 
 // The row of five fields.
+#[tactic(auto, unfolding(crate::specs::Lines::row_of, crate::specs::Steps::parts_row))]
 fn row_of(parts: Parts) -> Result<Line<Row>, Refusal>
     ensures { result ≡ parts_row parts }
 {
@@ -165,6 +171,7 @@ fn row_of(parts: Parts) -> Result<Line<Row>, Refusal>
 
 // The line `row=` with a kind's word and four numbers. Whether the kind has the side number is left to the caller, who reads
 // many rows and has the table of kinds laid down once.
+#[tactic(auto, using(crate::proofs::RowLaws::row_key, crate::proofs::RowLaws::row_uneven, crate::proofs::RowLaws::row_five))]
 pub fn row_line(s: &[u8], at: usize) -> Result<Line<Row>, Refusal>
     ensures { result ≡ row_line s.now at }
 {

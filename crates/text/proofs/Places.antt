@@ -6,7 +6,7 @@ use mathlib.Core.List.{List, [], ◌∷◌}
 use native.Mathlib.Omega.{arith}
 use lib.Dec.{eqb}
 use lib.Pointwise.{pointwise}
-use lib.ListN.{length, take, drop, length-drop}
+use lib.ListN.{length, take, drop}
 use borrow.Author.Tests.{eq-eqb, ne_eqb, lt-ltb, le-ltb}
 use Rattle.std.specs.Prelude.{Option, Some, None}
 use Rattle.text.specs.Fields.{byte_at, stands, starts_with}
@@ -43,22 +43,12 @@ module _ (byte : ℕ) (s : List ℕ) (at : ℕ) (o : Option ℕ) (q : o ≡ afte
       go true p = absurd (let z : ◌≡◌ {A = ℕ} 0 1 = cc in omega arith)
       go false p = refl
 
--- a key that is longer than what it is to begin does not, and else the library's comparison tells
-pub too_long : (key t : List ℕ) → length t < length key → starts_with key t ≡ false
-unfolding starts_with
-too_long [] t h = absurd (omega arith)
-too_long (x ∷ key) [] h = refl
-too_long (x ∷ key) (y ∷ t) h = rw (too_long key t (omega arith), and-false)
-
+-- a key begins a list where the library's comparison says so
 pub begins : (key t : List ℕ) → pointwise eqb key (take (length key) t) ≡ starts_with key t
 unfolding starts_with
 begins [] t = refl
 begins (x ∷ key) [] = refl
 begins (x ∷ key) (y ∷ t) = rw (begins key t)
-
-pub key_past : (key s : List ℕ) (at : ℕ) → 0 < length key → length s < at → after_key key s at ≡ None
-unfolding after_key
-key_past key s at p h = rw (too_long key (drop at s) (omega (arith, length-drop at s)))
 
 pub key_is : (key s : List ℕ) (at : ℕ) → starts_with key (drop at s) ≡ true → after_key key s at ≡ Some (at + length key)
 unfolding after_key

@@ -2,7 +2,7 @@
 // no byte.
 #![tactic(auto)]
 
-ghost use Rattle.std.specs.Prelude.{◌≡◌, true, not, ◌≤◌, ◌<◌, length, drop, position};
+ghost use Rattle.std.specs.Prelude.{◌≡◌, true, not, ◌+◌, ◌≤◌, ◌<◌, length, drop, position};
 ghost use Rattle.text.specs.Fields.{is_stop, stop_at, is_graphic, below};
 ghost use Rattle.text.specs.Steps.{after_byte, after_key, more_value, more_count, first_value, first_count, field_read, graphic_line};
 ghost use Rattle.text.specs.Numbers.{bounded, number_of};
@@ -14,11 +14,11 @@ pub struct Field {
     pub next: usize,
 }
 
-// The number of some digits, if it is one, and how many they are.
+// The number of some digits, if it is one, and the place after them.
 #[derive(Clone, Copy)]
 struct Run {
     value: Option<u32>,
-    count: usize,
+    stop: usize,
 }
 
 // Whether a line's text has only bytes from 33 to 126, the place of the first other byte, and the place after the line.
@@ -37,6 +37,7 @@ fn rest(s: &[u8], at: usize) -> &[u8]
 }
 
 // The place after this byte, if it stands at a place.
+#[tactic(auto, using(crate::proofs::Places::byte_past, crate::proofs::Places::byte_is, crate::proofs::Places::byte_other))]
 pub fn after_byte(s: &[u8], at: usize, byte: u8) -> Option<usize>
     ensures { result ≡ after_byte byte s.now at }
 {
@@ -61,6 +62,7 @@ fn first_stop(t: &[u8], sep: u8) -> Option<usize>
 }
 
 // The place of the first byte `sep` or byte 10 from a place on, or the end.
+#[tactic(auto, using(crate::proofs::Stops::stop_found))]
 pub fn stop_at(s: &[u8], at: usize, sep: u8) -> usize
     requires { sep ≤ 32 }
     ensures { result ≡ stop_at sep s.now at }
@@ -76,48 +78,45 @@ fn bounded(value: u64) -> Option<u32>
     u32::try_from(value).ok()
 }
 
-// The digits after a first one, as far as the number is below 4,294,967,300.
-fn more_digits(t: &[u8], first: u64) -> Run
+// The digits after a first one, as far as the number is below 4,294,967,300. By place: slices of what is left were tried, and take 55
+// instructions a row more, of 235.
+fn more_digits(s: &[u8], at: usize, first: u64) -> Run
     requires { first ≤ 9 }
-    ensures value { result.value ≡ bounded (more_value first t.now) }
-    ensures count { result.count ≡ more_count first t.now }
+    ensures value { result.value ≡ bounded (more_value first (drop at s.now)) }
+    ensures stop { result.stop ≡ at + more_count first (drop at s.now) }
 {
     let mut value = first;
-    for (count, b) in t.iter().enumerate() {
+    for stop in at..s.len() {
+        let b = s[stop];
         if !b.is_ascii_digit() || 429496729 < value {
             return Run {
                 value: bounded(value),
-                count,
+                stop,
             };
         }
-        value = value * 10 + u64::from(*b - b'0');
+        value = value * 10 + u64::from(b - b'0');
     }
     Run {
         value: bounded(value),
-        count: t.len(),
+        stop: at.max(s.len()),
     }
 }
 
-// The digits at the front: none where no digit stands there, and no more after a zero.
-fn first_digits(t: &[u8]) -> Run
-    ensures value { result.value ≡ first_value t.now }
-    ensures count { result.count ≡ first_count t.now }
+// The digits from a place on: none where no digit stands there, and no more after a zero.
+#[tactic(auto, using(crate::proofs::Runs::zero_value, crate::proofs::Runs::zero_count))]
+fn first_digits(s: &[u8], at: usize) -> Run
+    ensures value { result.value ≡ first_value (drop at s.now) }
+    ensures stop { result.stop ≡ at + first_count (drop at s.now) }
 {
-    match t {
-        [b'0', ..] => Run {
+    match s.get(at) {
+        Some(b'0') => Run {
             value: Some(0),
-            count: 1,
+            stop: at + 1,
         },
-        [b, more @ ..] if b.is_ascii_digit() => {
-            let read = more_digits(more, u64::from(*b - b'0'));
-            Run {
-                value: read.value,
-                count: read.count + 1,
-            }
-        }
+        Some(b) if b.is_ascii_digit() => more_digits(s, at + 1, u64::from(*b - b'0')),
         _ => Run {
             value: None,
-            count: 0,
+            stop: at,
         },
     }
 }
@@ -127,20 +126,20 @@ pub fn number(s: &[u8], at: usize, sep: u8, end: u8) -> Option<Field>
     requires { (sep ≤ 32) × (is_stop sep end ≡ true) }
     ensures { result ≡ field_read number_of sep end s.now at }
 {
-    let read = first_digits(rest(s, at));
-    let stop = at + read.count;
-    if let Some(next) = after_byte(s, stop, end) {
+    let read = first_digits(s, at);
+    if let Some(next) = after_byte(s, read.stop, end) {
         return Some(Field {
             value: read.value,
             next,
         });
     }
     // The field has other bytes after these digits, so that it spells no number, or `end` does not end it.
-    let next = after_byte(s, stop_at(s, stop, sep), end)?;
+    let next = after_byte(s, stop_at(s, read.stop, sep), end)?;
     Some(Field { value: None, next })
 }
 
 // The place after a key, if it stands at a place.
+#[tactic(auto, using(crate::proofs::Places::begins, crate::proofs::Places::key_is, crate::proofs::Places::key_other))]
 pub fn after_key(s: &[u8], at: usize, key: &[u8]) -> Option<usize>
     requires { 0 < length key.now }
     ensures { result ≡ after_key key.now s.now at }
@@ -181,6 +180,7 @@ pub fn graphic_line(s: &[u8], at: usize) -> Option<GraphicLine>
 }
 
 // Whether the first text comes before the second in byte order.
+#[tactic(auto, using(crate::proofs::Order::in_order))]
 pub fn is_below(a: &[u8], b: &[u8]) -> bool
     ensures { result ≡ below a.now b.now }
 {

@@ -7,7 +7,7 @@ use mathlib.Core.List.{List, [], ◌∷◌}
 use native.Mathlib.Nat.{add-zero, add-suc, add_assoc, mul-zero, mul_comm, mul_assoc, mul-add, mul-le-mul_right}
 use native.Mathlib.Numerals.{add-one}
 use native.Mathlib.Omega.{arith}
-use lib.ListN.{length, get_or, take, drop, drop_of_length-le}
+use lib.ListN.{length, length-take, get_or, take, drop, drop_of_length-le}
 use lib.Seq.{drop-cons}
 use lib.Dec.{leb}
 use borrow.Author.Tests.{leb-true}
@@ -137,6 +137,9 @@ spell_start t = record { scaled = refl; small = omega arith; is = omega arith; c
 pub record Spelled (t : List ℕ) (i value : ℕ) : Type 0 where
   pub value_is : value ≡ key (letters_of 12 t)
   pub count_is : i ≡ letters_up_to 12 t
+
+pub front_few : (n : ℕ) (t : List ℕ) → n ≡ min (length t) 12 → length (take n t) ≤ 12
+front_few n t e = omega (arith, length-take n t)
 
 pub of_front : (t u : List ℕ) (i value : ℕ) → u ≡ take (min (length t) 12) t → Spelled u i value → Spelled t i value
 of_front t u i value e w =

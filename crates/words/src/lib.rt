@@ -32,7 +32,7 @@ fn key_of(t: &[u8]) -> KeyRead
         if !b.is_ascii_lowercase() {
             return KeyRead { value, count };
         }
-        value += u64::from(*b - 96) * scale;
+        value += (u64::from(*b) - 96) * scale;
         scale *= 32;
     }
     KeyRead {
@@ -117,6 +117,7 @@ fn kind_of_key(value: u64) -> Option<u32>
 }
 
 // The kind whose word the small letters from a place on are.
+#[tactic(auto, using(crate::proofs::Words::stop_fits))]
 pub fn find_kind_at(s: &[u8], at: usize) -> KindAt
     ensures { KindTold s.now at result.kind result.stop }
 {
@@ -128,6 +129,7 @@ pub fn find_kind_at(s: &[u8], at: usize) -> KindAt
 }
 
 // The kind of a word.
+#[tactic(auto, using(crate::proofs::Words::word_part, crate::proofs::Words::word_whole))]
 pub fn find_kind(word: &[u8]) -> Option<u32>
     ensures { result ≡ kind_of word.now }
 {

@@ -1,6 +1,6 @@
 use Rattle.std.proofs.Common.{rules, length}
 use Rattle.lines.proofs.NumberLaws.{ranged_test}
-use Rattle.lines.proofs.NameLaws.{name_long, name_order, name_told}
+use Rattle.lines.proofs.NameLaws.{name_long, name_order}
 use Rattle.lines.proofs.named.Goals as goal
 use Rattle.lines.proofs.named.Goals.{then-not-contains-via-then-not-contains, then-not-contains-via-else-not-contains+then-not-is_below}
 
@@ -11,8 +11,3 @@ returns-then-not-contains c =
       | then-not-contains-via-then-not-contains w ↦ name_long _ _ _ _ _ t w.if-not-contains.true
       | then-not-contains-via-else-not-contains+then-not-is_below w ↦ name_order _ _ _ _ _ t w.if-not-contains.false _ w.is_below.ensures w.if-not-is_below.true
     ]
-
-pub returns : goal.returns
-returns c =
-    let t = ranged_test c.new.result 1 64 (length c.args.name.now) _ (search rules) (search rules) (search rules) c.contains.ensures.value in
-    name_told _ _ _ _ _ t c.if-not-contains.false _ c.is_below.ensures c.if-not-is_below.false _ c.jump_mark.ensures

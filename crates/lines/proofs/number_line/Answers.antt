@@ -1,25 +1,6 @@
-use Rattle.std.proofs.Common.{rules, ◌≡◌, ◌∙◌, Err}
-use Rattle.refusals.specs.declared.Refusal.TheVariants.{WrongLine, WrongNumber}
-use Rattle.lines.proofs.NumberLaws.{line_line, number_key, number_end, number_large, number_outside, number_value, ranged_test}
+use Rattle.std.proofs.Common.{rules}
+use Rattle.lines.proofs.NumberLaws.{number_outside, number_value, ranged_test}
 use Rattle.lines.proofs.number_line.Goals as goal
-
-pub returns-in_err-from : goal.returns-in_err-from
-returns-in_err-from c =
-    let e : c.from_residual.result ≡ Err WrongLine = search rules in
-    e ∙ number_key _ _ _ _ _ _ c.after_key.ensures (search rules)
-
-pub number-requires : goal.number-requires
-number-requires c = search (line_line, rules)
-
-pub returns-in_err-read : goal.returns-in_err-read
-returns-in_err-read c =
-    let e : c.from_residual-in_err-read.result ≡ Err WrongLine = search rules in
-    e ∙ number_end _ _ _ _ _ _ c.after_key.ensures c.in_ok-from.from (search rules) _ c.number.ensures (search rules)
-
-pub returns-in_err-value : goal.returns-in_err-value
-returns-in_err-value c =
-    let e : c.from_residual-in_err-value.result ≡ Err WrongNumber = search rules in
-    e ∙ number_large _ _ _ _ _ _ c.after_key.ensures c.in_ok-from.from (search rules) _ c.number.ensures c.in_ok-read.read (search rules) (search rules)
 
 pub returns-then-not-contains : goal.returns-then-not-contains
 returns-then-not-contains c =
