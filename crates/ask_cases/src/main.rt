@@ -5,88 +5,44 @@
 // ends the run with its error.
 #![tactic(auto)]
 
-use answers::Answer;
-use frames::Came;
-use sheet_record::Record;
+use frames::FrameError;
 use std::io;
 use std::io::Read;
 
-fn say(rt: &impl Print, text: &[u8]) -> io::Result<()> {
-    rt.write_all(text)
-}
-
-fn say_answer(rt: &impl Print, answer: Answer) -> io::Result<()> {
-    let text = answers::text_of(answer, b';');
-    let bytes = text.bytes;
-    let size = text.size;
-    say(rt, &bytes[0..size])
-}
-
 // Asks with the first numbers of two tables, as many as they have of them.
-fn report(
-    rt: &impl Print,
-    record: Record,
-    rows: &[u32],
-    row_numbers: usize,
-    names: &[u32],
-    name_numbers: usize,
-) -> io::Result<()> {
-    let r = case_text::least(row_numbers, rows.len());
-    let n = case_text::least(name_numbers, names.len());
-    say_answer(rt, ask::ask(record, &rows[0..r], &names[0..n]))
-}
-
 fn one_case(rt: &impl Print, text: &[u8]) -> io::Result<()> {
     let mut rows = [0u32; 10005];
     let mut names = [0u32; 1505];
-    let record = case_text::after(text, b'|');
-    let row_size = case_text::after(record, b'|');
-    let row_text = case_text::after(row_size, b'|');
-    let name_size = case_text::after(row_text, b'|');
-    case_text::set_table(&mut rows, case_text::before(row_text, b'|'));
-    case_text::set_table(&mut names, case_text::after(name_size, b'|'));
-    say(rt, case_text::before(text, b'|'))?;
-    say(rt, b": ")?;
-    report(
-        rt,
-        case_text::read_record(case_text::before(record, b'|')),
-        &rows,
-        case_text::decimal(case_text::before(row_size, b'|')),
-        &names,
-        case_text::decimal(case_text::before(name_size, b'|')),
-    )
+    let (title, text) = case_text::split(text, b'|');
+    let (record, text) = case_text::split(text, b'|');
+    let (row_numbers, text) = case_text::split(text, b'|');
+    let (row_text, text) = case_text::split(text, b'|');
+    let (name_numbers, name_text) = case_text::split(text, b'|');
+    case_text::set_table(&mut rows, row_text);
+    case_text::set_table(&mut names, name_text);
+    let answer = ask::ask(
+        case_text::read_record(record),
+        &rows[..case_text::decimal(row_numbers).min(rows.len())],
+        &names[..case_text::decimal(name_numbers).min(names.len())],
+    );
+    rt.write_all(title)?;
+    rt.write_all(b": ")?;
+    rt.write_all(answers::text_of(answer, b';').as_bytes())
 }
 
-// Answers the next case; false where there is none, or its frame is broken.
-fn next_case<R: Read>(rt: &impl Print, input: &mut R, space: &mut [u8]) -> io::Result<bool> {
-    let next = frames::next_frame(input, space)?;
-    let came = next.came;
-    let size = next.size;
-    match came {
-        Came::Nothing => Ok(false),
-        Came::NoSize | Came::Short => {
-            say(rt, b"broken frame\n")?;
-            Ok(false)
+fn cases<R: Read>(rt: &impl Print, input: &mut R) -> io::Result<()> {
+    let mut space = [0u8; 131072];
+    for _ in 0..u64::MAX {
+        match frames::next_frame(input, &mut space) {
+            Ok(None) => return Ok(()),
+            Ok(Some(size)) => one_case(rt, &space[..size])?,
+            Err(FrameError::Read(error)) => return Err(error),
+            Err(FrameError::NoSize | FrameError::Short) => return rt.write_all(b"broken frame\n"),
         }
-        Came::Whole => {
-            one_case(rt, &space[0..size])?;
-            Ok(true)
-        }
-    }
-}
-
-fn cases<R: Read>(rt: &impl Print, input: &mut R, space: &mut [u8]) -> io::Result<()> {
-    let mut left: usize = 18446744073709551615;
-    while 0 < left {
-        if !next_case(rt, input, space)? {
-            return Ok(());
-        }
-        left -= 1;
     }
     Ok(())
 }
 
 fn main(rt: HostRuntime) -> io::Result<()> {
-    let mut space = [0u8; 131072];
-    cases(&rt, &mut rt.stdin(), &mut space)
+    cases(&rt, &mut rt.stdin())
 }

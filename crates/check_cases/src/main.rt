@@ -11,22 +11,13 @@
 use refusals::{Refusal, Refused};
 use std::io;
 
-fn say(rt: &impl Print, text: &[u8]) -> io::Result<()> {
-    rt.write_all(text)
-}
+const NUMBERS: usize = 10005;
 
-fn number(rt: &impl Print, n: usize) -> io::Result<()> {
-    rt.print(n)
-}
-
-fn answer(rt: &impl Print, text: &[u8], checked: Result<(), Refused>) -> io::Result<()> {
-    say(rt, text)?;
+fn answer(rt: &impl Print, title: &str, checked: Result<(), Refused>) -> io::Result<()> {
     match checked {
-        Ok(()) => say(rt, b"0"),
+        Ok(()) => print!(rt; "{title} 0"),
         Err(refused) => {
-            number(rt, refusals::number_of(refused.refusal))?;
-            say(rt, b" at ")?;
-            number(rt, refused.place)
+            print!(rt; "{title} {} at {}", refusals::number_of(refused.refusal), refused.place)
         }
     }
 }
@@ -44,132 +35,99 @@ fn of_fields(checked: Result<(), Refused>) -> Result<(), Refused> {
     }
 }
 
-fn known(kind: u32) -> u32 {
-    if 65 < kind { 9 } else { kind }
-}
-
 // The same rows, each with the side number 0 and, if its kind is none, the kind `default`.
 fn without_fields(rows: &mut [u32]) {
-    let mut at = 0;
-    while 4 < rows.len() - at {
-        rows[at] = known(rows[at]);
-        rows[at + 1] = 0;
-        at += 5;
+    for i in 0..rows.len() / 5 {
+        if 65 < rows[5 * i] {
+            rows[5 * i] = 9;
+        }
+        rows[5 * i + 1] = 0;
     }
 }
 
 fn report(
     rt: &impl Print,
     title: &[u8],
-    space: [u32; 10005],
+    space: [u32; NUMBERS],
     numbers: usize,
     count: usize,
     names: usize,
 ) -> io::Result<()> {
-    if 10005 < numbers {
+    if NUMBERS < numbers {
         return Ok(());
     }
     let mut blocks = space;
     case_text::as_blocks(&mut blocks);
     let mut kinds = space;
     without_fields(&mut kinds);
-    say(rt, title)?;
-    answer(
-        rt,
-        b": fields ",
-        of_fields(checks::check(&space[0..numbers], count, names)),
-    )?;
-    answer(rt, b", ends ", checks::check(&blocks[0..numbers], count, 1))?;
-    answer(
-        rt,
-        b", children ",
-        checks::check(&kinds[0..numbers], count, 1),
-    )?;
-    say(rt, b"\n")
+    rt.write_all(title)?;
+    answer(rt, ": fields", of_fields(checks::check(&space[..numbers], count, names)))?;
+    answer(rt, ", ends", checks::check(&blocks[..numbers], count, 1))?;
+    answer(rt, ", children", checks::check(&kinds[..numbers], count, 1))?;
+    rt.write_all(b"\n")
 }
 
 fn row_of(rows: &mut [u32], i: usize, text: &[u8]) {
-    let rest = case_text::after(text, b' ');
-    case_text::set_row(
-        rows,
-        i,
-        case_text::read_kind(case_text::before(text, b' ')),
-        case_text::field(case_text::before(rest, b' ')),
-        case_text::field(case_text::after(rest, b' ')),
-    );
+    let (kind, text) = case_text::split(text, b' ');
+    let (side, end) = case_text::split(text, b' ');
+    case_text::set_row(rows, i, case_text::read_kind(kind), case_text::field(side), case_text::field(end));
 }
 
 // Sets the rows that a text gives.
 fn fill(rows: &mut [u32], text: &[u8]) {
-    let mut at = 0;
-    let mut i = 0;
-    while at < text.len() {
-        let part = case_text::before(&text[at..], b';');
-        let n = part.len();
-        row_of(rows, i, part);
-        i += 1;
-        at = case_text::past(text, at, n);
+    for (i, part) in text.split_inclusive(|b| *b == b';').enumerate() {
+        row_of(rows, i, case_text::split(part, b';').0);
     }
 }
 
 // So many blocks: each in the one before it, or all in the first.
 fn blocks(rows: &mut [u32], count: u32, nested: bool) {
-    let mut i: u32 = 0;
-    while i < count {
+    for i in 0..count {
         let end = if nested { count } else { i + 1 };
         case_text::set_row(rows, table::wide(i), 20, 0, end);
-        i += 1;
     }
     case_text::set_row(rows, 0, 20, 0, count);
 }
 
 fn rows_of(rows: &mut [u32], count: u32, text: &[u8]) {
-    if case_text::find(text, b'*') < text.len() {
-        blocks(rows, count, case_text::find(text, b'n') < text.len());
+    if text.contains(&b'*') {
+        blocks(rows, count, text.contains(&b'n'));
     } else {
         fill(rows, text);
     }
 }
 
 fn one_case(rt: &impl Print, title: &[u8], text: &[u8]) -> io::Result<()> {
-    let mut space = [0u32; 10005];
-    let count = case_text::field(case_text::before(text, b'|'));
-    let rest = case_text::after(text, b'|');
-    let numbers = table::wide(case_text::field(case_text::before(rest, b'|')));
-    let named = case_text::after(rest, b'|');
-    let names = table::wide(case_text::field(case_text::before(named, b'|')));
-    rows_of(&mut space, count, case_text::after(named, b'|'));
-    report(rt, title, space, numbers, table::wide(count), names)
+    let mut space = [0; NUMBERS];
+    let (count_text, text) = case_text::split(text, b'|');
+    let (numbers, text) = case_text::split(text, b'|');
+    let (names, rows) = case_text::split(text, b'|');
+    let count = case_text::field(count_text);
+    rows_of(&mut space, count, rows);
+    report(
+        rt,
+        title,
+        space,
+        table::wide(case_text::field(numbers)),
+        table::wide(count),
+        table::wide(case_text::field(names)),
+    )
 }
 
 fn line(rt: &impl Print, text: &[u8]) -> io::Result<()> {
-    if case_text::find(text, b'|') < text.len() {
-        one_case(
-            rt,
-            case_text::before(text, b'|'),
-            case_text::after(text, b'|'),
-        )
-    } else {
-        say(rt, text)?;
-        say(rt, b" ")?;
-        number(rt, table::wide(case_text::kind(text)))?;
-        say(rt, b"\n")
+    if text.contains(&b'|') {
+        let (title, text) = case_text::split(text, b'|');
+        return one_case(rt, title, text);
     }
-}
-
-fn lines(rt: &impl Print, text: &[u8]) -> io::Result<()> {
-    let mut at = 0;
-    while at < text.len() {
-        let part = case_text::before(&text[at..], b'\n');
-        let n = part.len();
-        line(rt, part)?;
-        at = case_text::past(text, at, n);
-    }
-    Ok(())
+    rt.write_all(text)?;
+    println!(rt; " {}", words::find_kind(text).unwrap_or(66))
 }
 
 fn main(rt: HostRuntime) -> io::Result<()> {
     let mut space = [0u8; 65536];
     let n = frames::read_full(&mut rt.stdin(), &mut space)?;
-    lines(&rt, &space[..n])
+    for part in space[..n].split_inclusive(|b| *b == b'\n') {
+        line(&rt, case_text::split(part, b'\n').0)?;
+    }
+    Ok(())
 }

@@ -17,7 +17,7 @@ ghost use Rattle.case_text.specs.RowTexts.{EndsKept};
 
 use checks::Checked;
 use effect_rules::ExprDa;
-use reads::{Iff, Mention};
+use reads::Iff;
 use refusals::Refusal;
 use std::io;
 
@@ -40,11 +40,11 @@ fn say_bit(rt: &impl Print, bit: bool) -> io::Result<()> {
     if bit { say(rt, b" 1") } else { say(rt, b" 0") }
 }
 
-fn say_mention(rt: &impl Print, mention: Mention) -> io::Result<()> {
+fn say_mention(rt: &impl Print, mention: Option<usize>) -> io::Result<()> {
     say(rt, b" ")?;
     match mention {
-        Mention::At(row) => number(rt, row),
-        Mention::Nowhere => say(rt, b"-"),
+        Some(row) => number(rt, row),
+        None => say(rt, b"-"),
     }
 }
 

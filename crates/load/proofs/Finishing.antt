@@ -26,9 +26,6 @@ use Rattle.sheet.specs.Steps.{Room, FieldsRead, GoodFilled, finish_fronts}
 pub never : {A : Type 0} {x : Refused} {r : Record} → Err x ≡ Ok r → A
 never e = absurd (let z : ◌≡◌ {A = ℕ} 0 1 = cc in omega arith)
 
-pub refused_filled : (x : Refused) (result : Loading) (rows names : List ℕ) → GoodFilled (Err x) result rows names
-refused_filled x result rows names = record { row_table = λ r e. never e; name_table = λ r e. never e }
-
 -- the answer stays as it is, whatever the tables are
 pub answered : (row_room name_room : ℕ) (a : Loaded) (rows names : List ℕ) → (with_tables row_room name_room a rows names).answer ≡ a
 unfolding refuse
@@ -99,5 +96,3 @@ fields_cleared r rows names w f new_rows p =
     let a : length (take (5 * r.rows) rows) ≡ 5 * r.rows = length-take-le (5 * r.rows) rows w.for_rows in
     let b : length new_rows ≡ length rows = ap length p ∙ length-append (take (5 * r.rows) rows) (replicate (length rows - 5 * r.rows) 0) ∙ omega (arith, a, length-replicate {A = ℕ} (length rows - 5 * r.rows) 0, w.for_rows) in
     f.pass w.for_rows new_rows (omega (arith, b, w.for_rows)) (ap (take (5 * r.rows)) p ∙ take_at (take (5 * r.rows) rows) (replicate (length rows - 5 * r.rows) 0) (5 * r.rows) a)
-
-pub ruleset answers = (refused_filled, no_room, has_room_lem, cleared_answer, cleared_tables, check_passed, check_row, check_refused, fields_cleared)

@@ -21,11 +21,11 @@ use Rattle.std.specs.Prelude.{Ok, Err, is_err}
 use Rattle.refusals.specs.declared.Refused.{Refused}
 use Rattle.refusals.specs.Refusals.{refused_at}
 use Rattle.sheet.specs.Load.{Loaded, Before, before, stopped, before_rows, Parsed, parsed, wrong, after_before, line_of, lines_of, Loading, refuse, table_of, has_room, checked_answer, with_tables, finish_of, after_parse, load_of}
-use Rattle.sheet.specs.Steps.{Short, answer_of, BothFilled, FieldsRead, GoodFilled, finish_fronts}
+use Rattle.sheet.specs.Steps.{answer_of, BothFilled, FieldsRead, GoodFilled, finish_fronts}
 use Rattle.sheet.proofs.NumberLines.{FactsTold}
 use Rattle.sheet.proofs.Reading.{RecordTold, before_told}
 use Rattle.sheet.proofs.ReadLaws.{rows_length, rows_kind, rows_side}
-use Rattle.load.proofs.Finishing.{never, refused_filled}
+use Rattle.load.proofs.Finishing.{never}
 
 apart : {A : Type 0} → ◌≡◌ {A = ℕ} 0 1 → A
 apart z = absurd (omega (arith, z))
@@ -102,9 +102,6 @@ refused_read : (row_room name_room : ℕ) (p : Parsed) (x : Refused) → Err x �
 unfolding refuse
 refused_read row_room name_room (parsed q names rows) x e = apart (cc)
 refused_read row_room name_room (wrong f l) x e = e
-
-pub is_short : (s : List ℕ) → length s ≤ 65536 → Short s
-is_short s h = record { bytes = h }
 
 module _ (s : List ℕ) (row_room name_room : ℕ) where
   -- 10
@@ -207,5 +204,3 @@ module _ (s : List ℕ) (row_room name_room : ℕ) (a : Loaded) (q : a ≡ (load
 
     pub good_names : names ≡ (load_of s row_room name_room).names
     good_names = let t = done_told a (sym p ∙ e) in g.name_table t.0 t.1
-
-pub ruleset answers = (is_short, load_long, load_lines, load_rows, load_names, fields_read, load_answer, load_filled, zero_rows, zero_names, good_rows, good_names, refused_filled)

@@ -77,20 +77,6 @@ fn fill(s: &[u8], rows: &mut [u32], names: &mut [u32]) -> Loaded
     finish(record, rows, names)
 }
 
-// The whole of loading.
-fn load_tables(sheet: &[u8], rows: &mut [u32], names: &mut [u32]) -> Loaded
-    ensures value { result ≡ (load_of sheet.now (length rows.old) (length names.old)).answer }
-    ensures row_table { rows.new ≡ (load_of sheet.now (length rows.old) (length names.old)).rows }
-    ensures name_table { names.new ≡ (load_of sheet.now (length rows.old) (length names.old)).names }
-{
-    let loaded = fill(sheet, rows, names);
-    if loaded.is_err() {
-        rows.fill(0);
-        names.fill(0);
-    }
-    loaded
-}
-
 // Loads a sheet. A refusal leaves zeros in both tables, and so does a good load after the part that it fills.
 pub fn load(sheet: &[u8], rows: &mut [u32], names: &mut [u32]) -> Loaded
     ensures value { result ≡ (load_of sheet.now (length rows.old) (length names.old)).answer }
@@ -99,5 +85,10 @@ pub fn load(sheet: &[u8], rows: &mut [u32], names: &mut [u32]) -> Loaded
     ensures numbers { LoadNumbers (refusal_of result) (place_of result) }
     ensures means { LoadMeans result rows.new names.new }
 {
-    load_tables(sheet, rows, names)
+    let loaded = fill(sheet, rows, names);
+    if loaded.is_err() {
+        rows.fill(0);
+        names.fill(0);
+    }
+    loaded
 }

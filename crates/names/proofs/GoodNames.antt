@@ -8,7 +8,7 @@ use Rattle.text.specs.Fields.{field}
 use Rattle.sheet_record.specs.declared.Record.{Record}
 use Rattle.sheet_record.specs.Records.{offset_at, size_at, text_at}
 use Rattle.sheet.proofs.ReadLaws.{NameEntry}
-use Rattle.sheet.specs.declared.Loaded.TheVariants.{Done}
+use Rattle.std.specs.Prelude.{Ok}
 use Rattle.sheet.specs.Load.{load_of}
 use Rattle.sheet.specs.Meaning.{Asked}
 use Rattle.load.proofs.GoodLoad.{load_asked, load_entry}
@@ -27,7 +27,7 @@ found s r rows table i h a e =
     (part_within s (offset_at table i) (size_at table i) e.within)
 
 pub load_name : (s : List ℕ) (row_room name_room : ℕ) (r : Record)
-    → (load_of s row_room name_room).answer ≡ Done r
+    → (load_of s row_room name_room).answer ≡ Ok r
     → (i : ℕ)
     → i < r.names
     → text_of s r (load_of s row_room name_room).names i ≡ field 10 s (offset_at (load_of s row_room name_room).names i)

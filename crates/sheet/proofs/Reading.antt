@@ -238,5 +238,3 @@ module _ (s : List ℕ) (f : Result (Line Record) Refused) (p : f ≡ before_of 
                 let z : known.0 ≡ ns = cc in
                 let n : x.names ≡ facts.value.names = ap (λ (m : Record). m.names) y in
                 ap (λ (m : ℕ). take (3 * m) names) n ∙ v.front facts.value known.0 facts.next known.1 (omega (arith, n, k)) ∙ z
-
-pub ruleset answers = (count_most, names_head, head_filled, names_section, section_filled, names_facts, names_filled, lines_before, before_filled, few_rows, few_names, lines_rows, rows_filled, lines_extra, extra_filled, lines_done, done_filled)

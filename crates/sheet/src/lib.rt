@@ -39,16 +39,7 @@ pub fn place_of(loaded: Loaded) -> usize
 pub fn record_of(loaded: Loaded) -> Record
     ensures { result ≡ record_of loaded }
 {
-    match loaded {
-        Ok(record) => record,
-        Err(_) => Record {
-            names: 0,
-            rows: 0,
-            local: 0,
-            start: 0,
-            sole: 0,
-        },
-    }
+    loaded.unwrap_or_default()
 }
 
 // What is read on a line, or the line's refusal with its number.

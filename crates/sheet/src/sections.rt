@@ -21,6 +21,7 @@ fn put(table: &mut [u32], at: usize, numbers: &[u32])
 }
 
 // The name lines from a place on: where the line after them starts.
+// One loop for names, rows and the header's numbers would need a trait of steps, longer than the three: each goes by something else.
 pub fn names_from(s: &[u8], from: usize, count: usize, names: &mut [u32]) -> Result<usize, Refused>
     requires short { Short s.now }
     requires count_bound { count ≤ 500 }

@@ -6,7 +6,7 @@ ghost use Rattle.sheet_record.specs.Records.{record_fits, record_held, offset_at
 
 // What loading tells beside the tables: "counts of names and rows, local, start, sole". All are numbers, since a caller may lend any record:
 // `record_fits` refuses a start or sole that is neither 0 nor 1.
-#[derive(Clone, Copy)]
+#[derive(Clone, Copy, Default)]
 pub struct Record {
     pub names: usize,
     pub rows: usize,

@@ -9,12 +9,11 @@ use lib.Dec.{eqb}
 use Rattle.sheet_record.specs.declared.Record.{Record}
 use Rattle.sheet_record.specs.Records.{text_at, marks_of}
 use Rattle.lines.specs.Lines.{jump_mark}
-use Rattle.refusals.specs.declared.Refusal.{Refusal}
+use Rattle.refusals.specs.declared.Refused.{Refused as RefusedAt}
 use Rattle.refusals.specs.Refusals.{refusal_number}
 use Rattle.refusals.proofs.Distinct.{number_some}
-use Rattle.sheet.specs.declared.Loaded.{Loaded}
-use Rattle.sheet.specs.declared.Loaded.TheVariants as L
-use Rattle.sheet.specs.Load.{load_of}
+use Rattle.std.specs.Prelude.{Ok, Err}
+use Rattle.sheet.specs.Load.{Loaded, load_of}
 use Rattle.load.proofs.GoodLoad.{GoodLoad, good_load, load_asked, load_tree, load_marks}
 use Rattle.load.proofs.Refusals.{load_numbers}
 use Rattle.answers.specs.declared.Answer.{Answer}
@@ -37,7 +36,7 @@ mark_jump name = go (is_jump_name name)
     go true = refl
     go false = refl
 
-module _ (s : List ℕ) (row_room name_room : ℕ) (r : Record) (e : (load_of s row_room name_room).answer ≡ L.Done r) where
+module _ (s : List ℕ) (row_room name_room : ℕ) (r : Record) (e : (load_of s row_room name_room).answer ≡ Ok r) where
   good : GoodLoad s row_room name_room r
   good = good_load s row_room name_room r e
 
@@ -66,8 +65,8 @@ module _ (s : List ℕ) (row_room name_room : ℕ) (r : Record) (e : (load_of s 
       }
 
 -- a load's refusal is no acceptance
-of_refusal : (s : List ℕ) (row_room name_room : ℕ) (refusal : Refusal) (line : ℕ) → (load_of s row_room name_room).answer ≡ L.Refused refusal line → (a : Answer) → a ≡ Refused refusal line → VerdictMeans s a
-of_refusal s row_room name_room refusal line e a q = record {
+of_refusal : (s : List ℕ) (row_room name_room : ℕ) (x : RefusedAt) → (load_of s row_room name_room).answer ≡ Err x → (a : Answer) → a ≡ Refused x.refusal x.place → VerdictMeans s a
+of_refusal s row_room name_room x e a q = record {
   safe = λ h. absurd (subst AcceptedAnswer q h);
   written = λ h. absurd (let z : ◌≡◌ {A = ℕ} 0 1 = cc in omega arith);
   away = λ h. absurd (let z : ◌≡◌ {A = ℕ} 0 1 = cc in omega arith);
@@ -79,8 +78,8 @@ unfolding verdict_of
 verdict_means s row_room name_room a q = go (load_of s row_room name_room).answer refl q
   where
     go : (l : Loaded) → (load_of s row_room name_room).answer ≡ l → a ≡ after_load l (load_of s row_room name_room).rows (load_of s row_room name_room).names → VerdictMeans s a
-    go (L.Done r) e v = of_sheet s row_room name_room r e a v
-    go (L.Refused refusal line) e v = of_refusal s row_room name_room refusal line e a v
+    go (Ok r) e v = of_sheet s row_room name_room r e a v
+    go (Err x) e v = of_refusal s row_room name_room x e a v
 
 -- its answer in numbers
 pub verdict_numbers : (s : List ℕ) (row_room name_room : ℕ) (a : Answer) → a ≡ verdict_of s row_room name_room → VerdictNumbers (numbers_of a)
@@ -88,8 +87,8 @@ unfolding verdict_of
 verdict_numbers s row_room name_room a q = rw q (go (load_of s row_room name_room).answer refl)
   where
     go : (l : Loaded) → (load_of s row_room name_room).answer ≡ l → VerdictNumbers (numbers_of (after_load l (load_of s row_room name_room).rows (load_of s row_room name_room).names))
-    go (L.Done r) e = rw (asked_walks r _ _ (load_asked s row_room name_room r e)) (by_walk (walk_numbers r (load_of s row_room name_room).rows (load_of s row_room name_room).names))
-    go (L.Refused refusal line) e = refused (refusal_number refusal) line (number_some refusal) (load_numbers s row_room name_room (L.Refused refusal line) (sym e))
+    go (Ok r) e = rw (asked_walks r _ _ (load_asked s row_room name_room r e)) (by_walk (walk_numbers r (load_of s row_room name_room).rows (load_of s row_room name_room).names))
+    go (Err x) e = refused (refusal_number x.refusal) x.place (number_some x.refusal) (load_numbers s row_room name_room (Err x) (sym e))
 
 -- demand 3 over bytes
 pub sheet_demand_3 : SheetDemand3
@@ -98,7 +97,3 @@ sheet_demand_3 s row_room name_room h = (verdict_means s row_room name_room (ver
 -- and for whoever makes the two calls
 pub asked_demand_3 : AskedDemand3
 asked_demand_3 s row_room name_room r e h = (of_sheet s row_room name_room r e (ask_of r (load_of s row_room name_room).rows (load_of s row_room name_room).names) refl).safe h
-
--- the clauses of the contract, with what it says of the tables
-pub verdict_told : {B C : Type 0} (s : List ℕ) (row_room name_room : ℕ) (a : Answer) → a ≡ verdict_of s row_room name_room → B → C → (a ≡ verdict_of s row_room name_room) × (B × (C × (VerdictNumbers (numbers_of a) × VerdictMeans s a)))
-verdict_told s row_room name_room a e b c = (e, (b, (c, (verdict_numbers s row_room name_room a e, verdict_means s row_room name_room a e))))

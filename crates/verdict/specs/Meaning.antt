@@ -1,10 +1,9 @@
 -- Demand 3 over bytes: "a single claim over every sheet with start 0 that loads and that asking accepts with the tables as loading left
 -- them, and over all its paths". It does not cover what a called function or task reads inside itself, which is left to reasons 6 and
 -- 7, nor what other blocks write to a shared net, nor that the walk is the Rust's, which rests on comparison. Definitions only.
-use Rattle.std.specs.Prelude.{◌≡◌, true, List, ℕ, ◌≤◌}
+use Rattle.std.specs.Prelude.{◌≡◌, true, List, ℕ, ◌≤◌, Ok}
 use Rattle.soundness.specs.Demand3.{SafePaths, FallsWritten, NeverFalls}
 use Rattle.sheet_record.specs.declared.Record.{Record}
-use Rattle.sheet.specs.declared.Loaded.TheVariants as L
 use Rattle.sheet.specs.Load.{load_of}
 use Rattle.sheet.specs.Meaning.{LoadNumbers}
 use Rattle.answers.specs.declared.Answer.{Answer}
@@ -28,7 +27,7 @@ SheetDemand3 = (s : List ℕ) (row_room name_room : ℕ) → AcceptedAnswer (ver
 abbrev pub AskedDemand3 : Type 0
 AskedDemand3 =
     (s : List ℕ) (row_room name_room : ℕ) (r : Record)
-    → (load_of s row_room name_room).answer ≡ L.Done r
+    → (load_of s row_room name_room).answer ≡ Ok r
     → AcceptedAnswer (ask_of r (load_of s row_room name_room).rows (load_of s row_room name_room).names)
     → (sheet_of s).start ≡ 0
     → SafeSheet s

@@ -8,7 +8,6 @@ ghost use Rattle.verdict.specs.Verdict.{verdict_of};
 ghost use Rattle.verdict.specs.Meaning.{VerdictNumbers, VerdictMeans};
 
 use answers::Answer;
-use sheet::Loaded;
 
 // Whether every read of the local comes after a write in this sheet: load, then ask. Asking would not refuse what loading leaves, so the
 // rows are walked at once. What is promised of an accepted sheet is the last clause. The tables end as loading leaves them: zeros after a
@@ -20,9 +19,8 @@ pub fn verdict(sheet: &[u8], rows: &mut [u32], names: &mut [u32]) -> Answer
     ensures numbers { VerdictNumbers (numbers_of result) }
     ensures demand_3 { VerdictMeans sheet.now result }
 {
-    let loaded = load::load(sheet, rows, names);
-    match loaded {
-        Loaded::Refused(refusal, line) => Answer::Refused(refusal, line),
-        Loaded::Done(record) => ask::walk(record, rows, names),
+    match load::load(sheet, rows, names) {
+        Ok(record) => ask::walk(record, rows, names),
+        Err(refused) => Answer::Refused(refused.refusal, refused.place),
     }
 }

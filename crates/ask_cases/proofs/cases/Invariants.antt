@@ -1,9 +1,0 @@
--- The loop leaves the space as long as it was. What falls: the cases that may still come.
-use Rattle.std.proofs.Common.{◌≡◌, length}
-use Rattle.ask_cases.proofs.cases.Given as goal
-
-abbrev pub invariant-loop-left : goal.invariant-loop-left
-invariant-loop-left g l = length l.space ≡ length l.initial.space
-
-abbrev pub decreases-loop-left : goal.decreases-loop-left
-decreases-loop-left g l = l.left
