@@ -1,6 +1,6 @@
--- A row by itself: what the answer of `right_end` says of the row's fields, end and depth, and that a table whose first wrong row is
+-- A row by itself: what the answer of `end_right` says of the row's fields, end and depth, and that a table whose first wrong row is
 -- refused is refused as `refuse` tells.
-use Rattle.std.specs.Prelude.{Option, Some, None, Ok, Err}
+use Rattle.std.specs.Prelude.{Ok, Err}
 use Prim.Native.Nat.{ℕ, suc, ◌+◌, ◌-◌, ◌≤◌, ◌<◌}
 use mathlib.Core.Path.{◌≡◌, refl, sym, ◌∙◌}
 use mathlib.Core.Bool.{Bool, true, false, cond, ◌&&◌}
@@ -11,12 +11,13 @@ use borrow.Author.Tests.{lt-ltb, le-ltb}
 use Rattle.table.specs.Rows.{kind_at, side_at, end_at}
 use Rattle.kinds.specs.declared.Kind.{Kind}
 use Rattle.kinds.specs.Steps.{side_below}
+use Rattle.kinds.proofs.Below.{true_not_false, both_true}
 use Rattle.refusals.specs.declared.Refusal.TheVariants.{WrongSide, WrongEnd, TooDeep}
 use Rattle.checks.specs.Checks.{Checked}
 use Rattle.refusals.specs.Refusals.{refused_at}
 use Rattle.checks.specs.Checks.{passed}
 use Rattle.checks.specs.Checks.{and_then, first_from, when_held, fields_at, fields_of, enclosing, end_fits, depth_at, ends_at, ends_of, checked_rows}
-use Rattle.checks.specs.Steps.{Held, end_told, RowTold, end_refusal, refused_of, alone_at}
+use Rattle.checks.specs.Steps.{Held, end_right, RowTold, end_refusal, refused_of, alone_at}
 use Rattle.checks.proofs.Rows.{Checking, checking_step, checking_stop, from_zero, checking_upto, both_pass}
 use Rattle.checks.proofs.Room.{holds_true}
 use Rattle.checks.proofs.FieldLaws.{unknown_told, side_told}
@@ -34,15 +35,15 @@ pub record Bounds (rows : List ℕ) (count row least most depth : ℕ) : Type 0 
   pub fits : end_fits count row (end_at rows row) (enclosing rows row) ≡ (leb least (end_at rows row) && leb (end_at rows row) most)
   pub deep : depth_at rows row ≡ suc depth
 
-module _ (rows : List ℕ) (count names row : ℕ) (numbers : Kind) (least most depth : ℕ) (b : Bounds rows count row least most depth) (r : Option ℕ) (w : RowTold rows names row numbers least most r) where
+module _ (rows : List ℕ) (count names row : ℕ) (numbers : Kind) (least most depth : ℕ) (b : Bounds rows count row least most depth) (r : Bool) (w : RowTold rows names row numbers least most r) where
   unfoldable between : Bool
   between = leb least (end_at rows row) && leb (end_at rows row) most
 
   unfoldable sided : Bool
   sided = side_below numbers.sides names (side_at rows row)
 
-  told : r ≡ cond (between && sided) (Some (end_at rows row)) None
-  unfolding end_told between sided
+  told : r ≡ (between && sided)
+  unfolding end_right between sided
   told = w.answer
 
   fields_are : fields_at rows names row ≡ cond sided passed (refused_at WrongSide row)
@@ -53,28 +54,20 @@ module _ (rows : List ℕ) (count names row : ℕ) (numbers : Kind) (least most 
   unfolding alone_at ends_at between
   row_is = rw (fields_are, b.fits, b.deep)
 
-  pub row_wrong : r ≡ None → RefusedFor rows count names row false
-  row_wrong z = rw (fields_are, row_is) (go between sided told)
+  pub row_wrong : r ≡ false → RefusedFor rows count names row false
+  row_wrong z = rw (fields_are, row_is) (go between sided (sym told ∙ z))
     where
       go : (x y : Bool)
-          → r ≡ cond (x && y) (Some (end_at rows row)) None
+          → (x && y) ≡ false
           → and_then (cond y passed (refused_at WrongSide row)) (refused_at WrongEnd row) ≡ and_then (cond y passed (refused_at WrongSide row)) (cond x (cond (ltb depth 100) passed (refused_at TooDeep row)) (refused_at WrongEnd row))
       go false y t = refl
       go true false t = refl
-      go true true t = absurd (let z : ◌≡◌ {A = ℕ} 0 1 = cc in omega arith)
+      go true true t = true_not_false t
 
-  -- an end that is told is right, and so is the side number
-  module _ (end : ℕ) (n : r ≡ Some end) where
+  -- the end and the side number are right
+  module _ (y : r ≡ true) where
     both_right : (between ≡ true) × (sided ≡ true)
-    both_right = go between sided told
-      where
-        go : (x y : Bool) → r ≡ cond (x && y) (Some (end_at rows row)) None → (x ≡ true) × (y ≡ true)
-        go true true t = (refl, refl)
-        go true false t = absurd (let z : ◌≡◌ {A = ℕ} 0 1 = cc in omega arith)
-        go false y t = absurd (let z : ◌≡◌ {A = ℕ} 0 1 = cc in omega arith)
-
-    pub end_is : end ≡ end_at rows row
-    end_is = let t : Some end ≡ Some (end_at rows row) = sym n ∙ told ∙ rw (both_right.0, both_right.1) in cc
+    both_right = both_true between sided (sym told ∙ y)
 
     pub row_deep : 100 ≤ depth → RefusedFor rows count names row true
     row_deep h = rw (fields_are, row_is, both_right.0, both_right.1, le-ltb depth 100 h)

@@ -1,5 +1,5 @@
 -- What the functions of the check ask of each other and tell each other on the way. Nothing here is document 01's.
-use Rattle.std.specs.Prelude.{ℕ, suc, ◌+◌, ◌-◌, ◌*◌, ◌≤◌, ◌<◌, ◌≡◌, min, Bool, true, false, cond, ◌&&◌, List, [], ◌∷◌, Option, Some, None, leb, length, get_or, set}
+use Rattle.std.specs.Prelude.{ℕ, suc, ◌+◌, ◌-◌, ◌*◌, ◌≤◌, ◌<◌, ◌≡◌, min, Bool, true, false, cond, ◌&&◌, List, [], ◌∷◌, leb, length, get_or, set}
 use Rattle.table.specs.Rows.{kind_at, side_at, end_at}
 use Rattle.kinds.specs.declared.Kind.{Kind}
 use Rattle.kinds.specs.Kinds.{S, entry, in_class, side_fits}
@@ -88,15 +88,14 @@ pub record RowRead (rows : List ℕ) (row : ℕ) (numbers : Kind) : Type 0 where
   pub sides : (names side : ℕ) → side_below numbers.sides names side ≡ side_fits (entry (kind_at rows row)).sides names side
   pub children : numbers.children ≡ items_number (entry (kind_at rows row)).children
 
--- what `right_end` answers of a row whose end may be from `least` to `most`
-unfoldable pub end_told : List ℕ → ℕ → Kind → ℕ → ℕ → ℕ → Option ℕ
-end_told rows names numbers row least most =
-    cond ((leb least (end_at rows row) && leb (end_at rows row) most) && side_below numbers.sides names (side_at rows row)) (Some (end_at rows row)) None
+-- what `end_right` answers of a row whose end may be from `least` to `most`
+unfoldable pub end_right : List ℕ → ℕ → Kind → ℕ → ℕ → ℕ → Bool
+end_right rows names numbers row least most = (leb least (end_at rows row) && leb (end_at rows row) most) && side_below numbers.sides names (side_at rows row)
 
 -- what it tells: of which row, and the answer
-pub record RowTold (rows : List ℕ) (names row : ℕ) (numbers : Kind) (least most : ℕ) (r : Option ℕ) : Type 0 where
+pub record RowTold (rows : List ℕ) (names row : ℕ) (numbers : Kind) (least most : ℕ) (r : Bool) : Type 0 where
   pub read : RowRead rows row numbers
-  pub answer : r ≡ end_told rows names numbers row least most
+  pub answer : r ≡ end_right rows names numbers row least most
 
 -- why a row is refused where all fields are right: for its depth, or for its end
 abbrev pub end_refusal : Bool → Refusal
