@@ -114,6 +114,7 @@ fn is_quiet(rows: &[u32], local: usize, i: usize, to: usize) -> bool
     if kind < 41 {
         return kind != 7;
     }
+    // Apart from the kinds below 41: one match for all costs 0.6 to 1.4 instructions more a row, of 10.6.
     match kind {
         41 | 60 => names_other(rows, local, i + 2, to), // ident, lident
         54 => is_quiet_call(rows, local, i, to), // call
