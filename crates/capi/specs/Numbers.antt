@@ -1,14 +1,12 @@
 -- What C is told, as lists of numbers: document 01, "What the caller gets". Definitions only.
-use Rattle.std.specs.Prelude.{ℕ, ◌*◌, ◌≤◌, ◌≡◌, Bool, true, false, List, [], ◌∷◌, get_or}
+use Rattle.std.specs.Prelude.{ℕ, ◌*◌, ◌≤◌, ◌≡◌, Result, Ok, Err, List, [], ◌∷◌, get_or}
 use Rattle.sheet_record.specs.declared.Record.{Record}
-use Rattle.sheet.specs.declared.Loaded.{Loaded}
-use Rattle.sheet.specs.declared.Loaded.TheVariants as L
+use Rattle.refusals.specs.declared.Refusal.{Refusal}
 use Rattle.refusals.specs.Refusals.{refusal_number}
-use Rattle.sheet.specs.Load.{refusal_of, place_of, record_of, load_of}
+use Rattle.sheet.specs.Load.{Loaded, refusal_of, place_of, record_of, load_of}
 use Rattle.answers.specs.declared.Answer.{Answer}
 use Rattle.answers.specs.Answers.{numbers_of}
-use Rattle.names.specs.declared.Named.{Named}
-use Rattle.names.specs.declared.Named.TheVariants as N
+use Rattle.names.specs.declared.Span.{Span}
 
 -- "fewer than 5 numbers a row": 2,000 rows
 abbrev pub most_row_numbers : ℕ
@@ -35,11 +33,6 @@ record_numbers r = r.names ∷ r.rows ∷ r.local ∷ r.start ∷ r.sole ∷ []
 unfoldable pub record_from : List ℕ → Record
 record_from ns = record { names = get_or ns 0 0; rows = get_or ns 1 0; local = get_or ns 2 0; start = get_or ns 3 0; sole = get_or ns 4 0 }
 
--- whether "counts of names and rows, local, start, sole" are told, and not a refusal
-abbrev pub is_loaded : Loaded → Bool
-is_loaded (L.Done r) = true
-is_loaded (L.Refused refusal line) = false
-
 -- the record's numbers, zeros where the load is refused
 abbrev pub loaded_numbers : Loaded → List ℕ
 loaded_numbers loaded = record_numbers (record_of loaded)
@@ -48,12 +41,7 @@ loaded_numbers loaded = record_numbers (record_of loaded)
 abbrev pub refusal_numbers : Loaded → List ℕ
 refusal_numbers loaded = refusal_of loaded ∷ place_of loaded ∷ []
 
--- whether there is "a name's text", and not a refusal
-abbrev pub is_found : Named → Bool
-is_found (N.At offset size) = true
-is_found (N.Refused refusal) = false
-
 -- offset, length and 0; "A refused name is the empty part", with its number
-abbrev pub place_numbers : Named → List ℕ
-place_numbers (N.At offset size) = offset ∷ size ∷ 0 ∷ []
-place_numbers (N.Refused refusal) = 0 ∷ 0 ∷ refusal_number refusal ∷ []
+abbrev pub place_numbers : Result Span Refusal → List ℕ
+place_numbers (Ok span) = span.offset ∷ span.size ∷ 0 ∷ []
+place_numbers (Err refusal) = 0 ∷ 0 ∷ refusal_number refusal ∷ []

@@ -2,18 +2,19 @@
 // place for its answer. `include/da.h` declares them. A result is true exactly where the caller may go on: loaded, accepted, found.
 #![tactic(auto)]
 
-ghost use Rattle.std.specs.Prelude.{◌≡◌, length};
+ghost use Rattle.std.specs.Prelude.{◌≡◌, length, is_ok};
 ghost use Rattle.sheet.specs.Load.{load_of};
 ghost use Rattle.sheet.specs.Meaning.{LoadMeans};
 ghost use Rattle.answers.specs.Answers.{is_accepted};
 ghost use Rattle.ask.specs.Ask.{ask_of};
 ghost use Rattle.verdict.specs.Verdict.{verdict_of};
 ghost use Rattle.names.specs.NameText.{name_place};
-ghost use Rattle.capi.specs.Numbers.{most_row_numbers, most_name_numbers, RoomFor, answer_numbers, is_loaded, loaded_numbers, refusal_numbers, record_from, is_found, place_numbers};
+ghost use Rattle.capi.specs.Numbers.{most_row_numbers, most_name_numbers, RoomFor, answer_numbers, loaded_numbers, refusal_numbers, record_from, place_numbers};
 ghost use Rattle.capi.specs.Meaning.{TrueMeans, AskedTrueMeans};
 
 use answers::Answer;
-use names::Named;
+use names::Span;
+use refusals::Refusal;
 use sheet::Loaded;
 use sheet_record::Record;
 
@@ -58,15 +59,6 @@ fn tell_refusal(loaded: Loaded, out: &mut [usize; 2])
     *out = [sheet::refusal_of(loaded), sheet::place_of(loaded)];
 }
 
-fn loaded_well(loaded: Loaded) -> bool
-    ensures { result ≡ is_loaded loaded }
-{
-    match loaded {
-        Loaded::Done(record) => true,
-        Loaded::Refused(refusal, line) => false,
-    }
-}
-
 // Loads a sheet into two lent tables.
 #[unsafe(no_mangle)]
 pub extern "C" fn da_load(
@@ -76,7 +68,7 @@ pub extern "C" fn da_load(
     record: &mut [usize; 5],
     refusal: &mut [usize; 2],
 ) -> bool
-    ensures value { result ≡ is_loaded (load_of sheet.now (length rows.old) (length names.old)).answer }
+    ensures value { result ≡ is_ok (load_of sheet.now (length rows.old) (length names.old)).answer }
     ensures facts { «record».new ≡ loaded_numbers (load_of sheet.now (length rows.old) (length names.old)).answer }
     ensures refused { refusal.new ≡ refusal_numbers (load_of sheet.now (length rows.old) (length names.old)).answer }
     ensures row_table { rows.new ≡ (load_of sheet.now (length rows.old) (length names.old)).rows }
@@ -86,19 +78,21 @@ pub extern "C" fn da_load(
     let loaded = load::load(sheet, rows, names);
     tell_record(loaded, record);
     tell_refusal(loaded, refusal);
-    loaded_well(loaded)
+    loaded.is_ok()
 }
 
 // A record from C's five numbers.
+#[tactic(auto, unfolding(crate::specs::Numbers::record_from))]
 fn record_from(numbers: &[usize; 5]) -> Record
     ensures { result ≡ record_from numbers.now }
 {
+    let [names, rows, local, start, sole] = *numbers;
     Record {
-        names: numbers[0],
-        rows: numbers[1],
-        local: numbers[2],
-        start: numbers[3],
-        sole: numbers[4],
+        names,
+        rows,
+        local,
+        start,
+        sole,
     }
 }
 
@@ -139,26 +133,13 @@ pub extern "C" fn da_verdict(
 }
 
 // A place's three numbers for C: offset, length and the refusal's number.
-fn tell_place(named: Named, out: &mut [usize; 3])
+fn tell_place(named: Result<Span, Refusal>, out: &mut [usize; 3])
     ensures { out.new ≡ place_numbers named }
 {
-    match named {
-        Named::At(offset, size) => {
-            *out = [offset, size, 0];
-        }
-        Named::Refused(refusal) => {
-            *out = [0, 0, refusals::number_of(refusal)];
-        }
-    }
-}
-
-fn found(named: Named) -> bool
-    ensures { result ≡ is_found named }
-{
-    match named {
-        Named::At(offset, size) => true,
-        Named::Refused(refusal) => false,
-    }
+    *out = match named {
+        Ok(span) => [span.offset, span.size, 0],
+        Err(refusal) => [0, 0, refusals::number_of(refusal)],
+    };
 }
 
 // Where a name's text stands in the sheet that was loaded: C has no part of a slice to be given.
@@ -170,10 +151,10 @@ pub extern "C" fn da_name(
     number: usize,
     place: &mut [usize; 3],
 ) -> bool
-    ensures value { result ≡ is_found (name_place sheet.now (record_from «record».now) names.now number) }
+    ensures value { result ≡ is_ok (name_place sheet.now (record_from «record».now) names.now number) }
     ensures told { place.new ≡ place_numbers (name_place sheet.now (record_from «record».now) names.now number) }
 {
     let named = names::name_place(sheet, record_from(record), names, number);
     tell_place(named, place);
-    found(named)
+    named.is_ok()
 }

@@ -8,6 +8,7 @@ use lib.Dec.{eqb}
 use borrow.Author.Tests.{not-true, not-false}
 use Rattle.kinds.specs.Kinds.{Item, fits}
 use Rattle.kinds.specs.Steps.{items_number, takes_first, repeats_first, rest_first, after_first}
+use Rattle.kinds.proofs.Numbers.{repeats_none}
 use Rattle.kinds.proofs.Steps.{Left, left_taken, left_skipped, left_refused, left_passed, left_ended, rest_less}
 use Rattle.checks.specs.declared.OpenRow.{OpenRow}
 use Rattle.checks.specs.Steps.{Settles, whole, missing, taken, unfit, Takes}
@@ -32,17 +33,21 @@ ending_falls left after r a q y = omega (arith, rest_less left (sym q ∙ y))
 pub ruleset ending = (ending_start, ending_done, ending_next, ending_falls)
 
 -- what `settle` tells
-module _ (left own first : ℕ) (r : Bool) (t : (items : List Item) → left ≡ items_number items → r ≡ fits items []) where
-  told : (b : Bool) → Left left [] b → r ≡ b
-  told b l = t l.items l.number ∙ sym l.same
+module _ (left own first : ℕ) where
+  pub settle_none : left ≡ 0 → Settles left own first first
+  settle_none z = whole refl (λ b l. (let e = left_ended l (rw z repeats_none) in rw z at e))
 
-  pub settle_whole : r ≡ true → Settles left own first first
-  settle_whole y = whole refl (λ b l. sym y ∙ told b l)
+  module _ (r : Bool) (t : (items : List Item) → left ≡ items_number items → r ≡ fits items []) where
+    told : (b : Bool) → Left left [] b → r ≡ b
+    told b l = t l.items l.number ∙ sym l.same
 
-  pub settle_missing : (out : ℕ) → r ≡ false → out ≡ min own first → Settles left own first out
-  settle_missing out n e = missing e (λ b l. sym n ∙ told b l)
+    pub settle_whole : r ≡ true → Settles left own first first
+    settle_whole y = whole refl (λ b l. sym y ∙ told b l)
 
-pub ruleset settling = (settle_whole, settle_missing)
+    pub settle_missing : (out : ℕ) → r ≡ false → out ≡ min own first → Settles left own first out
+    settle_missing out n e = missing e (λ b l. sym n ∙ told b l)
+
+pub ruleset settling = (settle_none, settle_whole, settle_missing)
 
 -- the loop of `take`: the child is for the items left, and nothing else has changed
 pub record Taking (before : OpenRow) (kind : ℕ) (now : OpenRow) : Type 0 where

@@ -1,12 +1,12 @@
 -- The loop over the rows after row 0. The rows before the one come to are right by themselves, and the ends kept are those of the rows that it stands
 -- in; where the ends of the whole table nest, the children are known as Known says. The rows that are left fall.
-use Rattle.std.specs.Prelude.{Option, Some, None}
 use Prim.Native.Nat.{ℕ, suc, ◌+◌, ◌-◌, ◌*◌, ◌≤◌, ◌<◌}
 use mathlib.Core.Path.{◌≡◌, refl, sym, ap, ◌∙◌}
-use mathlib.Core.Bool.{Bool, true, false}
+use mathlib.Core.Bool.{Bool, true, false, not}
 use mathlib.Core.List.{List, [], ◌∷◌, map}
 use mathlib.Core.Logic.{⊎_elim}
 use native.Mathlib.Omega.{arith}
+use borrow.Author.Tests.{not-true, not-false}
 use native.Mathlib.Nat.{eq-or-lt_of_le}
 use native.Mathlib.Numerals.{add-one}
 use lib.ListN.{length, get_or, set, length-set}
@@ -14,6 +14,8 @@ use Rattle.table.specs.Rows.{kind_at, end_at, Nested}
 use Rattle.kinds.specs.declared.Kind.{Kind}
 use Rattle.kinds.specs.Kinds.{kinds, entry}
 use Rattle.kinds.specs.Steps.{numbers, items_number}
+use Rattle.refusals.specs.declared.Refusal.{Refusal}
+use Rattle.refusals.specs.declared.Refusal.TheVariants.{WrongEnd, TooDeep}
 use Rattle.checks.specs.Checks.{Checked}
 use Rattle.checks.specs.Checks.{passed}
 use Rattle.checks.specs.declared.OpenRow.{OpenRow}
@@ -25,7 +27,7 @@ use Rattle.checks.proofs.FieldLaws.{read_row}
 use Rattle.checks.proofs.Enclosing.{Rises, end_least, end_after, enclosing_same, enclosing_more}
 use Rattle.checks.proofs.Nest.{RightEnd, right_end, rises_at, root, within, LastAbove, last_above, none_above}
 use Rattle.checks.proofs.Kept.{last_first, top, pushed, retaken, last_length, close_down, close_above}
-use Rattle.checks.proofs.OneRow.{RefusedFor, Bounds, unknown_refused, row_wrong, row_deep, row_right, end_is, refused_checked}
+use Rattle.checks.proofs.OneRow.{RefusedFor, Bounds, unknown_refused, row_wrong, row_deep, row_right, refused_checked}
 use Rattle.checks.proofs.Known.{Opens, Known, close_known, take_known, open_known, leaf_known}
 
 -- the rows before row n are right by themselves
@@ -159,37 +161,37 @@ module _ (rows : List ℕ) (count names start : ℕ) (now : OpenRows) (row first
     bounds = record { fits = rw (enclosed, add-one); deep = rw (← w.kept, last_length) (omega arith) }
 
     -- it is refused by itself
-    refused : (deep : Bool) (out : Checked) → RefusedFor rows count names row deep → out ≡ refused_of rows count names row deep → out ≡ checked_rows rows count names
-    refused deep out t o = refused_checked rows count names w.held row row_below w.right deep out t o
+    refused : (why : Refusal) (out : Checked) → RefusedFor rows count names row why → out ≡ refused_of rows count names row why → out ≡ checked_rows rows count names
+    refused why out t o = refused_checked rows count names w.held row row_below w.right why out t o
 
     module _ (k : ℕ) (i : k ≡ kind_at rows row) where
-      pub walking_unknown : (out : Checked) → 66 ≤ k → out ≡ refused_of rows count names row false → out ≡ checked_rows rows count names
-      walking_unknown out m o = refused false out (unknown_refused rows count names row k i m) o
+      pub walking_unknown : (out : Checked) → 66 ≤ k → out ≡ refused_of rows count names row WrongEnd → out ≡ checked_rows rows count names
+      walking_unknown out m o = refused WrongEnd out (unknown_refused rows count names row k i m) o
 
       pub walking_read : (entries : List Kind) (d : Kind) → k < 66 → entries ≡ map numbers kinds → RowRead rows row (get_or entries k d)
       walking_read entries d m t = read_row rows names row k i entries d row_held m t
 
-    module _ (n : Kind) (r : Option ℕ) (q : RowTold rows names row n (row + 1) most r) where
-      pub walking_wrong : (out : Checked) → r ≡ None → out ≡ refused_of rows count names row false → out ≡ checked_rows rows count names
-      walking_wrong out z o = refused false out (row_wrong rows count names row n (row + 1) most now.depth bounds r q z) o
+    module _ (n : Kind) (b : Bool) (q : RowTold rows names row n (row + 1) most b) where
+      pub walking_wrong : (out : Checked) → not b ≡ true → out ≡ refused_of rows count names row WrongEnd → out ≡ checked_rows rows count names
+      walking_wrong out z o = refused WrongEnd out (row_wrong rows count names row n (row + 1) most now.depth bounds b q (not-true b z)) o
 
-      module _ (end : ℕ) (e : r ≡ Some end) where
-        pub walking_deep : (out : Checked) → 100 ≤ now.depth → out ≡ refused_of rows count names row true → out ≡ checked_rows rows count names
-        walking_deep out l o = refused true out (row_deep rows count names row n (row + 1) most now.depth bounds r q end e l) o
+      module _ (y : not b ≡ false) where
+        pub walking_deep : (out : Checked) → 100 ≤ now.depth → out ≡ refused_of rows count names row TooDeep → out ≡ checked_rows rows count names
+        walking_deep out l o = refused TooDeep out (row_deep rows count names row n (row + 1) most now.depth bounds b q (not-false b y) l) o
 
         -- or taken by the row that it stands in
-        module _ (l : now.depth < 100) (k : ℕ) (i : k ≡ kind_at rows row) (after : OpenRow) (f : ℕ) (x : Takes (row_at now.rows (now.depth - 1)) k first after f) where
+        module _ (end : ℕ) (e : end ≡ end_at rows row) (l : now.depth < 100) (k : ℕ) (i : k ≡ kind_at rows row) (after : OpenRow) (f : ℕ) (x : Takes (row_at now.rows (now.depth - 1)) k first after f) where
           taken : Taken rows count names start (set now.rows (now.depth - 1) after) now.depth (record { end = end; left = n.children; own = row }) f
           taken = record {
             held = w.held;
             room = length-set now.rows (now.depth - 1) after ∙ w.room;
             below = row_below;
             shallow = l;
-            right = λ j p. ⊎_elim (λ (z : j ≡ row). rw z (row_right rows count names row n (row + 1) most now.depth bounds r q end e l)) (λ b. w.right j b) (eq-or-lt_of_le (before j p));
+            right = λ j p. ⊎_elim (λ (z : j ≡ row). rw z (row_right rows count names row n (row + 1) most now.depth bounds b q (not-false b y) l)) (λ h. w.right j h) (eq-or-lt_of_le (before j p));
             kept = (
                 let z : suc (now.depth - 1) ≡ now.depth = omega arith in
                 rw z at (retaken now.rows (now.depth - 1) after (omega (arith, w.room, w.shallow)) (ap (λ (o : OpenRow). o.end) x.changed)) ∙ w.kept);
-            is = end_is rows count names row n (row + 1) most now.depth bounds r q end e;
+            is = e;
             children = q.read.children;
             known = λ g. (
                 let z : suc (now.depth - 1) ≡ now.depth = omega arith in
@@ -201,12 +203,13 @@ module _ (rows : List ℕ) (count names start : ℕ) (now : OpenRows) (row first
               before j p = omega arith
 
 -- the row come to is entered
-pub walking_next : (rows : List ℕ) (count names start : ℕ) (now : OpenRows) (row first : ℕ) (k : ℕ) (n : Kind) (r : Option ℕ) (end : ℕ) (after : OpenRows) (f : ℕ)
+pub walking_next : (rows : List ℕ) (count names start : ℕ) (now : OpenRows) (row first : ℕ) (k : ℕ) (n : Kind) (b : Bool) (end : ℕ) (after : OpenRows) (f : ℕ)
     → Enters now (record { end = end; left = n.children; own = row }) k first after f
-    → r ≡ Some end
-    → RowTold rows names row n (row + 1) (row_at now.rows (now.depth - 1)).end r
+    → not b ≡ false
+    → RowTold rows names row n (row + 1) (row_at now.rows (now.depth - 1)).end b
+    → end ≡ end_at rows row
     → k ≡ kind_at rows row
     → Walking rows count names start now row first
     → Walking rows count names start after (row + 1) f
-walking_next rows count names start now row first k n r end after f x e q i w =
-    placed (taken rows count names start now row first w x.room.some n r q end e x.room.shallow k i x.after x.found x.takes) after f x.places
+walking_next rows count names start now row first k n b end after f x y q e i w =
+    placed (taken rows count names start now row first w x.room.some n b q y end e x.room.shallow k i x.after x.found x.takes) after f x.places

@@ -44,13 +44,13 @@ fn held(rows: &[u32], count: usize) -> bool
 
 // Whether each item left may stand any number of times, none included.
 #[tactic(auto, using(crate::proofs::Items::ending))]
-fn all_repeat(mut left: Items) -> bool
-    ensures { (items : List Item) → left ≡ items_number items → result ≡ fits items [] }
+fn all_repeat(mut items: Items) -> bool
+    ensures { (asked : List Item) → items ≡ items_number asked → result ≡ fits asked [] }
 {
-    while kinds::repeats_first(left) {
-        left = kinds::rest_first(left);
+    while kinds::repeats_first(items) {
+        items = kinds::rest_first(items);
     }
-    left == 0
+    items == 0
 }
 
 impl OpenRow {
@@ -59,6 +59,10 @@ impl OpenRow {
     fn settle(self, first: usize) -> usize
         ensures { Settles self.left self.own first result }
     {
+        // Most rows have no items left: without this line a row costs 8 instructions more.
+        if self.left == 0 {
+            return first;
+        }
         if all_repeat(self.left) {
             first
         } else {
@@ -129,22 +133,14 @@ impl OpenRows {
     }
 }
 
-// The end of a row, where that may be from `least` to `most` and the side number is right.
-#[tactic(auto, unfolding(crate::specs::Steps::end_told))]
-fn right_end(
-    rows: &[u32],
-    names: usize,
-    row: usize,
-    entry: Kind,
-    least: usize,
-    most: usize,
-) -> Option<usize>
+// Whether a row's end, which may be from `least` to `most`, and its side number are right.
+#[tactic(auto, unfolding(crate::specs::Steps::end_right))]
+fn end_right(rows: &[u32], names: usize, row: usize, entry: Kind, least: usize, most: usize) -> bool
     requires { RowRead rows.now row entry }
     ensures { RowTold rows.now names row entry least most result }
 {
-    let end = table::end_at(rows, row);
-    let side = table::side_at(rows, row);
-    ((least..=most).contains(&end) && kinds::side_fits(entry, side, names)).then_some(end)
+    (least..=most).contains(&table::end_at(rows, row))
+        && kinds::side_fits(entry, table::side_at(rows, row), names)
 }
 
 // The kind and the side number of row i.
@@ -168,20 +164,21 @@ fn check_fields(rows: &[u32], names: usize, i: usize) -> Result<(), Refused>
     Ok(())
 }
 
-// A row is wrong by itself, `deep` for its depth alone. Fields come before ends and depth: it is told for its end or depth only where no
-// row from it on has a wrong kind or side number.
-fn refuse(rows: &[u32], count: usize, names: usize, row: usize, deep: bool) -> Result<(), Refused>
+// A row is wrong by itself, `refusal` for its end or depth. Fields come before these: it is told for that only where no row from it on has a
+// wrong kind or side number.
+fn refuse(
+    rows: &[u32],
+    count: usize,
+    names: usize,
+    row: usize,
+    refusal: Refusal,
+) -> Result<(), Refused>
     requires { Held rows.now count }
-    ensures { result ≡ refused_of rows.now count names row deep }
+    ensures { result ≡ refused_of rows.now count names row refusal }
 {
     for i in row..count {
         check_fields(rows, names, i)?;
     }
-    let refusal = if deep {
-        Refusal::TooDeep
-    } else {
-        Refusal::WrongEnd
-    };
     Err(Refused {
         refusal,
         place: row,
@@ -205,18 +202,18 @@ fn check_rest(
     while 0 < open_rows.depth {
         let kind = table::kind_at(rows, row);
         if 66 <= kind {
-            return refuse(rows, count, names, row, false);
+            return refuse(rows, count, names, row, Refusal::WrongEnd);
         }
         let entry = entries[kind];
         let most = open_rows.rows[open_rows.depth - 1].end;
-        let Some(end) = right_end(rows, names, row, entry, row + 1, most) else {
-            return refuse(rows, count, names, row, false);
-        };
+        if !end_right(rows, names, row, entry, row + 1, most) {
+            return refuse(rows, count, names, row, Refusal::WrongEnd);
+        }
         if 100 <= open_rows.depth {
-            return refuse(rows, count, names, row, true);
+            return refuse(rows, count, names, row, Refusal::TooDeep);
         }
         let child = OpenRow {
-            end,
+            end: table::end_at(rows, row),
             left: entry.children,
             own: row,
         };
@@ -279,11 +276,11 @@ pub fn check(rows: &[u32], count: usize, names: usize) -> Result<(), Refused>
     let entries = kinds::kinds();
     let kind = table::kind_at(rows, 0);
     if 66 <= kind {
-        return refuse(rows, count, names, 0, false);
+        return refuse(rows, count, names, 0, Refusal::WrongEnd);
     }
     let entry = entries[kind];
-    if right_end(rows, names, 0, entry, count, count).is_none() {
-        return refuse(rows, count, names, 0, false);
+    if !end_right(rows, names, 0, entry, count, count) {
+        return refuse(rows, count, names, 0, Refusal::WrongEnd);
     }
     check_from_root(rows, count, names, entry.children, root_found(count, kind))
 }

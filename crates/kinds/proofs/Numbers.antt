@@ -7,7 +7,7 @@ use mathlib.Core.List.{List, [], ◌∷◌, map}
 use native.Mathlib.Nat.{pos_of_ne-zero}
 use native.Mathlib.Omega.{arith}
 use lib.ListN.{length, get_or, length-map, get_or-map}
-use lib.Dec.{eqb, leb, ltb}
+use lib.Dec.{eqb, leb, ltb, leb-suc-suc}
 use borrow.Author.Tests.{ltb-true, ltb-false, lt-ltb, le-ltb, le-leb, lt-leb, leb-true, eqb-true, eqb-false, eq-eqb, ne_eqb}
 use Rattle.kinds.specs.declared.SideNumbers.{SideNumbers}
 use Rattle.kinds.specs.declared.Kind.{Kind}
@@ -19,14 +19,7 @@ pub kinds_count : length kinds ≡ 66
 unfolding kinds
 kinds_count = refl
 
--- the numbers up to 0, and those below 1: 0
-at_most_none : (n : ℕ) → leb n 0 ≡ eqb n 0
-at_most_none n = go (eqb n 0) refl
-  where
-    go : (b : Bool) → eqb n 0 ≡ b → leb n 0 ≡ b
-    go true e = rw (eqb-true n 0 e)
-    go false e = lt-leb n 0 (pos_of_ne-zero (eqb-false n 0 e))
-
+-- the numbers below 1: 0
 below_one : (n : ℕ) → ltb n 1 ≡ eqb n 0
 below_one n = go (eqb n 0) refl
   where
@@ -37,8 +30,8 @@ below_one n = go (eqb n 0) refl
 -- the side numbers that the code holds are the kind's
 side_number : (s : Sides) (names side : ℕ) → side_below (sides_number s) names side ≡ side_fits s names side
 unfolding side_below sides_number side_fits
-side_number zero_only names side = at_most_none side
-side_number (up_to n) names side = refl
+side_number zero_only names side = below_one side
+side_number (up_to n) names side = leb-suc-suc side n
 side_number name_number names side = refl
 
 -- The computed test of a class: the kinds from its first up to the number past its last are those of the class and no other,
@@ -180,11 +173,11 @@ module _ (items : ℕ) where
 
   -- by its class, or as `none` where the item may be absent
   module _ (k : ℕ) (b : Bool) (e : b ≡ of_first items k) where
-    pub taken_of : b ≡ true → b ≡ takes_first items k
+    pub taken_of : b ≡ true → true ≡ takes_first items k
     unfolding takes_first
-    taken_of h = h ∙ rw (← e, h) (sym (or-true (leb 128 (items % 256) && eqb k 0)))
+    taken_of h = rw (← e, h) (sym (or-true (leb 128 (items % 256) && eqb k 0)))
 
-    pub taken_not : b ≡ false → (k ≡ 0 → ⊥) → eqb k 0 ≡ takes_first items k
+    pub taken_not : b ≡ false → (k ≡ 0 → ⊥) → false ≡ takes_first items k
     unfolding takes_first
     taken_not h n = rw (← e, h, ne_eqb k 0 n, and-false (leb 128 (items % 256)))
 

@@ -2,18 +2,18 @@
 -- these numbers say what the list says is proved in proofs/Numbers.
 use Rattle.std.specs.Prelude.{ℕ, suc, ◌+◌, ◌*◌, ◌/◌, ◌%◌, Bool, true, false, cond, ◌&&◌, ◌||◌, List, [], ◌∷◌, eqb, leb, ltb}
 use Rattle.kinds.specs.declared.SideNumbers.{SideNumbers}
-use Rattle.kinds.specs.declared.SideNumbers.TheVariants.{UpTo, Names}
+use Rattle.kinds.specs.declared.SideNumbers.TheVariants.{Below, Names}
 use Rattle.kinds.specs.declared.Kind.{Kind}
 use Rattle.kinds.specs.Kinds.{Class, Sides, zero_only, up_to, name_number, Item, Entry, kinds, of_class}
 
 -- the side numbers that the code's table holds
 unfoldable pub sides_number : Sides → SideNumbers
-sides_number zero_only = UpTo 0
-sides_number (up_to n) = UpTo n
+sides_number zero_only = Below 1
+sides_number (up_to n) = Below (suc n)
 sides_number name_number = Names
 
 unfoldable pub side_below : SideNumbers → ℕ → ℕ → Bool
-side_below (UpTo most) names side = leb side most
+side_below (Below n) names side = ltb side n
 side_below Names names side = ltb side names
 
 abbrev pub bit : Bool → ℕ

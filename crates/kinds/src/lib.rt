@@ -6,10 +6,10 @@ ghost use Rattle.kinds.specs.Kinds.{Item, Sides, kinds as kind_list, in_class, S
 ghost use Rattle.kinds.specs.Named.{expr_class, stmt_class};
 ghost use Rattle.kinds.specs.Steps.{numbers, sides_number, items_number, side_below, of_first, takes_first, repeats_first, rest_first};
 
-// The side numbers of a kind: those from 0 up to one, or the numbers of the names.
+// The side numbers of a kind: those below a count, or the numbers of the names.
 #[derive(Clone, Copy)]
 pub enum SideNumbers {
-    UpTo(usize),
+    Below(usize),
     Names,
 }
 
@@ -101,12 +101,12 @@ const NONE: Items = 0;
 const KINDS: [Kind; 66] = [
     // none
     Kind {
-        sides: SideNumbers::UpTo(0),
+        sides: SideNumbers::Below(1),
         children: NONE,
     },
     // path seg*
     Kind {
-        sides: SideNumbers::UpTo(0),
+        sides: SideNumbers::Below(1),
         children: SEG | ANY,
     },
     // seg
@@ -116,37 +116,37 @@ const KINDS: [Kind; 66] = [
     },
     // delay E*
     Kind {
-        sides: SideNumbers::UpTo(0),
+        sides: SideNumbers::Below(1),
         children: EXPRESSION | ANY,
     },
     // intra E? (star or list)
     Kind {
-        sides: SideNumbers::UpTo(0),
+        sides: SideNumbers::Below(1),
         children: (EXPRESSION | OPTIONAL) | STAR_OR_LIST << 16,
     },
     // star
     Kind {
-        sides: SideNumbers::UpTo(0),
+        sides: SideNumbers::Below(1),
         children: NONE,
     },
     // list event*
     Kind {
-        sides: SideNumbers::UpTo(0),
+        sides: SideNumbers::Below(1),
         children: EVENT | ANY,
     },
     // event E E?
     Kind {
-        sides: SideNumbers::UpTo(0),
+        sides: SideNumbers::Below(1),
         children: EXPRESSION | (EXPRESSION | OPTIONAL) << 16,
     },
     // match S E*
     Kind {
-        sides: SideNumbers::UpTo(0),
+        sides: SideNumbers::Below(1),
         children: STATEMENT | (EXPRESSION | ANY) << 16,
     },
     // default S
     Kind {
-        sides: SideNumbers::UpTo(0),
+        sides: SideNumbers::Below(1),
         children: STATEMENT,
     },
     // decl E?
@@ -156,277 +156,277 @@ const KINDS: [Kind; 66] = [
     },
     // blocking delay? intra? L E
     Kind {
-        sides: SideNumbers::UpTo(0),
+        sides: SideNumbers::Below(1),
         children: (DELAY | OPTIONAL) | (INTRA | OPTIONAL) << 16 | TARGET << 32 | EXPRESSION << 48,
     },
     // nonblocking delay? intra? L E
     Kind {
-        sides: SideNumbers::UpTo(0),
+        sides: SideNumbers::Below(1),
         children: (DELAY | OPTIONAL) | (INTRA | OPTIONAL) << 16 | TARGET << 32 | EXPRESSION << 48,
     },
     // if E S S?
     Kind {
-        sides: SideNumbers::UpTo(0),
+        sides: SideNumbers::Below(1),
         children: EXPRESSION | STATEMENT << 16 | (STATEMENT | OPTIONAL) << 32,
     },
     // return E?
     Kind {
-        sides: SideNumbers::UpTo(0),
+        sides: SideNumbers::Below(1),
         children: EXPRESSION | OPTIONAL,
     },
     // case E (match or default)*
     Kind {
-        sides: SideNumbers::UpTo(0),
+        sides: SideNumbers::Below(1),
         children: EXPRESSION | (ARM | ANY) << 16,
     },
     // for S E S S
     Kind {
-        sides: SideNumbers::UpTo(1),
+        sides: SideNumbers::Below(2),
         children: STATEMENT | EXPRESSION << 16 | STATEMENT << 32 | STATEMENT << 48,
     },
     // while E S
     Kind {
-        sides: SideNumbers::UpTo(1),
+        sides: SideNumbers::Below(2),
         children: EXPRESSION | STATEMENT << 16,
     },
     // repeat E S
     Kind {
-        sides: SideNumbers::UpTo(1),
+        sides: SideNumbers::Below(2),
         children: EXPRESSION | STATEMENT << 16,
     },
     // forever S
     Kind {
-        sides: SideNumbers::UpTo(1),
+        sides: SideNumbers::Below(2),
         children: STATEMENT,
     },
     // block decl* S*
     Kind {
-        sides: SideNumbers::UpTo(0),
+        sides: SideNumbers::Below(1),
         children: (DECL | ANY) | (STATEMENT | ANY) << 16,
     },
     // fork S*
     Kind {
-        sides: SideNumbers::UpTo(0),
+        sides: SideNumbers::Below(1),
         children: STATEMENT | ANY,
     },
     // systask E*
     Kind {
-        sides: SideNumbers::UpTo(0),
+        sides: SideNumbers::Below(1),
         children: EXPRESSION | ANY,
     },
     // task path E*
     Kind {
-        sides: SideNumbers::UpTo(7),
+        sides: SideNumbers::Below(8),
         children: PATH | (EXPRESSION | ANY) << 16,
     },
     // randstmt
     Kind {
-        sides: SideNumbers::UpTo(0),
+        sides: SideNumbers::Below(1),
         children: NONE,
     },
     // delayctrl delay S?
     Kind {
-        sides: SideNumbers::UpTo(0),
+        sides: SideNumbers::Below(1),
         children: DELAY | (STATEMENT | OPTIONAL) << 16,
     },
     // eventctrl (star or list) S?
     Kind {
-        sides: SideNumbers::UpTo(0),
+        sides: SideNumbers::Below(1),
         children: STAR_OR_LIST | (STATEMENT | OPTIONAL) << 16,
     },
     // trigger
     Kind {
-        sides: SideNumbers::UpTo(0),
+        sides: SideNumbers::Below(1),
         children: NONE,
     },
     // wait E S?
     Kind {
-        sides: SideNumbers::UpTo(0),
+        sides: SideNumbers::Below(1),
         children: EXPRESSION | (STATEMENT | OPTIONAL) << 16,
     },
     // disable path
     Kind {
-        sides: SideNumbers::UpTo(0),
+        sides: SideNumbers::Below(1),
         children: PATH,
     },
     // waitfork
     Kind {
-        sides: SideNumbers::UpTo(0),
+        sides: SideNumbers::Below(1),
         children: NONE,
     },
     // concurrent S? S?
     Kind {
-        sides: SideNumbers::UpTo(0),
+        sides: SideNumbers::Below(1),
         children: (STATEMENT | OPTIONAL) | (STATEMENT | OPTIONAL) << 16,
     },
     // passign
     Kind {
-        sides: SideNumbers::UpTo(0),
+        sides: SideNumbers::Below(1),
         children: NONE,
     },
     // deassign
     Kind {
-        sides: SideNumbers::UpTo(0),
+        sides: SideNumbers::Below(1),
         children: NONE,
     },
     // force
     Kind {
-        sides: SideNumbers::UpTo(0),
+        sides: SideNumbers::Below(1),
         children: NONE,
     },
     // release
     Kind {
-        sides: SideNumbers::UpTo(0),
+        sides: SideNumbers::Below(1),
         children: NONE,
     },
     // deferred S S
     Kind {
-        sides: SideNumbers::UpTo(0),
+        sides: SideNumbers::Below(1),
         children: STATEMENT | STATEMENT << 16,
     },
     // cover
     Kind {
-        sides: SideNumbers::UpTo(0),
+        sides: SideNumbers::Below(1),
         children: NONE,
     },
     // null
     Kind {
-        sides: SideNumbers::UpTo(0),
+        sides: SideNumbers::Below(1),
         children: NONE,
     },
     // error
     Kind {
-        sides: SideNumbers::UpTo(0),
+        sides: SideNumbers::Below(1),
         children: NONE,
     },
     // lit
     Kind {
-        sides: SideNumbers::UpTo(0),
+        sides: SideNumbers::Below(1),
         children: NONE,
     },
     // ident path
     Kind {
-        sides: SideNumbers::UpTo(0),
+        sides: SideNumbers::Below(1),
         children: PATH,
     },
     // unary E
     Kind {
-        sides: SideNumbers::UpTo(1),
+        sides: SideNumbers::Below(2),
         children: EXPRESSION,
     },
     // binary E E
     Kind {
-        sides: SideNumbers::UpTo(2),
+        sides: SideNumbers::Below(3),
         children: EXPRESSION | EXPRESSION << 16,
     },
     // ternary E E E
     Kind {
-        sides: SideNumbers::UpTo(0),
+        sides: SideNumbers::Below(1),
         children: EXPRESSION | EXPRESSION << 16 | EXPRESSION << 32,
     },
     // bitsel E E
     Kind {
-        sides: SideNumbers::UpTo(0),
+        sides: SideNumbers::Below(1),
         children: EXPRESSION | EXPRESSION << 16,
     },
     // partsel E E E
     Kind {
-        sides: SideNumbers::UpTo(0),
+        sides: SideNumbers::Below(1),
         children: EXPRESSION | EXPRESSION << 16 | EXPRESSION << 32,
     },
     // indexed E E E
     Kind {
-        sides: SideNumbers::UpTo(0),
+        sides: SideNumbers::Below(1),
         children: EXPRESSION | EXPRESSION << 16 | EXPRESSION << 32,
     },
     // mtm E E E
     Kind {
-        sides: SideNumbers::UpTo(0),
+        sides: SideNumbers::Below(1),
         children: EXPRESSION | EXPRESSION << 16 | EXPRESSION << 32,
     },
     // concat E*
     Kind {
-        sides: SideNumbers::UpTo(0),
+        sides: SideNumbers::Below(1),
         children: EXPRESSION | ANY,
     },
     // syscall E*
     Kind {
-        sides: SideNumbers::UpTo(0),
+        sides: SideNumbers::Below(1),
         children: EXPRESSION | ANY,
     },
     // pattern E*
     Kind {
-        sides: SideNumbers::UpTo(0),
+        sides: SideNumbers::Below(1),
         children: EXPRESSION | ANY,
     },
     // replicate E E*
     Kind {
-        sides: SideNumbers::UpTo(0),
+        sides: SideNumbers::Below(1),
         children: EXPRESSION | (EXPRESSION | ANY) << 16,
     },
     // method E E*
     Kind {
-        sides: SideNumbers::UpTo(0),
+        sides: SideNumbers::Below(1),
         children: EXPRESSION | (EXPRESSION | ANY) << 16,
     },
     // call path E*
     Kind {
-        sides: SideNumbers::UpTo(3),
+        sides: SideNumbers::Below(4),
         children: PATH | (EXPRESSION | ANY) << 16,
     },
     // paren E
     Kind {
-        sides: SideNumbers::UpTo(0),
+        sides: SideNumbers::Below(1),
         children: EXPRESSION,
     },
     // cast E E?
     Kind {
-        sides: SideNumbers::UpTo(0),
+        sides: SideNumbers::Below(1),
         children: EXPRESSION | (EXPRESSION | OPTIONAL) << 16,
     },
     // namedarg E?
     Kind {
-        sides: SideNumbers::UpTo(0),
+        sides: SideNumbers::Below(1),
         children: EXPRESSION | OPTIONAL,
     },
     // new E E?
     Kind {
-        sides: SideNumbers::UpTo(0),
+        sides: SideNumbers::Below(1),
         children: EXPRESSION | (EXPRESSION | OPTIONAL) << 16,
     },
     // opaque
     Kind {
-        sides: SideNumbers::UpTo(0),
+        sides: SideNumbers::Below(1),
         children: NONE,
     },
     // lident path
     Kind {
-        sides: SideNumbers::UpTo(0),
+        sides: SideNumbers::Below(1),
         children: PATH,
     },
     // lbit L E
     Kind {
-        sides: SideNumbers::UpTo(0),
+        sides: SideNumbers::Below(1),
         children: TARGET | EXPRESSION << 16,
     },
     // lpart L E E
     Kind {
-        sides: SideNumbers::UpTo(0),
+        sides: SideNumbers::Below(1),
         children: TARGET | EXPRESSION << 16 | EXPRESSION << 32,
     },
     // lidx L E E
     Kind {
-        sides: SideNumbers::UpTo(0),
+        sides: SideNumbers::Below(1),
         children: TARGET | EXPRESSION << 16 | EXPRESSION << 32,
     },
     // lconcat L*
     Kind {
-        sides: SideNumbers::UpTo(0),
+        sides: SideNumbers::Below(1),
         children: TARGET | ANY,
     },
     // lerror
     Kind {
-        sides: SideNumbers::UpTo(0),
+        sides: SideNumbers::Below(1),
         children: NONE,
     },
 ];
@@ -439,14 +439,16 @@ pub fn kinds() -> [Kind; 66]
 }
 
 // Whether a side number is one of the kind's, with so many names.
+#[tactic(auto, using(crate::proofs::Numbers::side_told), unfolding(crate::specs::Steps::side_below))]
 pub fn side_fits(kind: Kind, side: usize, names: usize) -> bool
     ensures value { result ≡ side_below kind.sides names side }
     ensures means { (s : Sides) → kind.sides ≡ sides_number s → result ≡ side_fits s names side }
 {
-    match kind.sides {
-        SideNumbers::UpTo(most) => side <= most,
-        SideNumbers::Names => side < names,
-    }
+    let count = match kind.sides {
+        SideNumbers::Below(count) => count,
+        SideNumbers::Names => names,
+    };
+    side < count
 }
 
 // Whether a kind is a statement: kinds 11 to 39 are.
@@ -509,19 +511,30 @@ pub fn stmt_class(kind: usize) -> StmtClass
     }
 }
 
-// Whether a kind is of the class that the first item of a kind's children asks for.
+// Whether a kind is of the class that the first item of a kind's children asks for. Both this and the next return as soon as they can: as `&&` and
+// `||` both sides are worked out each time, at 10 instructions more for a row that is checked.
 fn of_first(items: Items, kind: usize) -> bool
     ensures { result ≡ of_first items kind }
 {
-    items % 128 <= kind && kind < items / 256 % 128
+    if kind < items % 128 {
+        return false;
+    }
+    kind < items / 256 % 128
 }
 
 // Whether the first item of a kind's children takes a child of this kind.
+#[tactic(auto, using(crate::proofs::Numbers::taking))]
 pub fn takes_first(items: Items, kind: usize) -> bool
     ensures value { result ≡ takes_first items kind }
     ensures means { (i : Item) (others : List Item) → items ≡ items_number (i ∷ others) → result ≡ takes i kind }
 {
-    of_first(items, kind) || (kind == 0 && 128 <= items % 256)
+    if of_first(items, kind) {
+        return true;
+    }
+    if kind != 0 {
+        return false;
+    }
+    128 <= items % 256
 }
 
 // Whether it may stand any number of times.

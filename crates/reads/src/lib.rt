@@ -105,6 +105,7 @@ fn is_quiet(rows: Siblings, local: usize, i: usize) -> bool
     if kind < 41 {
         return kind != 7;
     }
+    // Apart from the kinds below 41: one match for all costs 0.6 to 1.4 instructions more a row, of 10.6.
     match kind {
         41 | 60 => names_other(rows.table, local, i + 2, rows.to), // ident, lident
         54 => is_quiet_call(rows, local, i), // call

@@ -10,8 +10,8 @@ kind_at-kind-requires c = search walking
 pub returns-then-kind-ge66 : goal.returns-then-kind-ge66
 returns-then-kind-ge66 c = search walking
 
-pub right_end-requires : goal.right_end-requires
-right_end-requires c = search walking
+pub end_right-requires : goal.end_right-requires
+end_right-requires c = search walking
 
 pub returns-then-open_rows-ge100 : goal.returns-then-open_rows-ge100
 returns-then-open_rows-ge100 c = search walking
@@ -28,5 +28,5 @@ returns c = search walking
 pub loop-open_rows-preserved : goal.loop-open_rows-preserved
 loop-open_rows-preserved c = search (walking, c.enter-first.ensures)
 
-pub returns-in_default : goal.returns-in_default
-returns-in_default c = search walking
+pub returns-then-not-end_right : goal.returns-then-not-end_right
+returns-then-not-end_right c = search walking

@@ -2,10 +2,10 @@ use borrow.Author.Tests.{lt-leb, le-leb}
 use Rattle.kinds.specs.Steps.{of_first}
 use Rattle.kinds.proofs.of_first.Goals as goal
 
-pub returns-then-items-kind : goal.returns-then-items-kind
+pub returns-then-kind-items : goal.returns-then-kind-items
 unfolding of_first
-returns-then-items-kind c = rw (le-leb _ _ c.if-items-kind.true)
+returns-then-kind-items c = rw (lt-leb _ _ c.if-kind-items.true)
 
-pub returns-else-items-kind : goal.returns-else-items-kind
+pub returns : goal.returns
 unfolding of_first
-returns-else-items-kind c = rw (lt-leb _ _ c.if-items-kind.false)
+returns c = rw (le-leb _ _ c.if-kind-items.false)
