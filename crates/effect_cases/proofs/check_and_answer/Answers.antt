@@ -1,7 +1,6 @@
 -- Rows are asked about only where their ends pass the check, on the same rows as blocks: that they nest is said of ends alone.
-use Rattle.std.proofs.Common.{ℕ, List, arith, refl}
+use Rattle.std.proofs.Common.{ℕ, List, arith}
 use Rattle.table.specs.Rows.{Nested}
-use Rattle.checks.specs.declared.Checked.TheVariants.{Passed}
 use Rattle.checks.proofs.Passed.{checked_children}
 use Rattle.case_text.specs.RowTexts.{EndsKept}
 use Rattle.effect_cases.proofs.check_and_answer.Goals as goal
@@ -18,4 +17,4 @@ same_ends rows blocks count k n = record {
 pub answer-requires : goal.answer-requires
 answer-requires g c =
     same_ends c.args.rows.now c.args.blocks.now c.args.count c.requires
-    (checked_children c.args.blocks.now c.args.count 1 Passed c.in-Passed.ensures refl).ends.nested
+    (checked_children c.args.blocks.now c.args.count 1 c.check.result c.check.ensures c.in-Ok.is).ends.nested
