@@ -13,6 +13,7 @@ use da::{DaOut, DaResult};
 use da_rows::Context;
 use refusals::Refusal;
 use sheet_record::Record;
+use table::Siblings;
 
 fn walk_answer(res: DaResult) -> Answer
     ensures { result ≡ walk_answer res }
@@ -30,10 +31,16 @@ pub fn walk(record: Record, rows: &[u32], names: &[u32]) -> Answer
     ensures { result ≡ walk_answer (walked «record» rows.now names.now) }
 {
     let ctx = Context {
+        names,
         local: record.local,
         sole: record.sole == 1,
     };
-    walk_answer(da_walk::da_stmt(rows, names, ctx, 0, record.rows, record.start == 1))
+    let table = Siblings {
+        table: rows,
+        from: 0,
+        to: record.rows,
+    };
+    walk_answer(da_walk::da_stmt(&ctx, table, record.start == 1))
 }
 
 // The check of the rows, then the walk.
