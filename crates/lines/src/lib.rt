@@ -116,15 +116,7 @@ fn kind_field(s: &[u8], at: usize) -> Option<Field>
     ensures { result ≡ field_read kind_of 32 32 s.now at }
 {
     let read = words::find_kind_at(s, at);
-    if let Some(next) = text::after_byte(s, read.stop, b' ') {
-        return Some(Field {
-            value: read.kind,
-            next,
-        });
-    }
-    // The field has other bytes after these letters, so that it is no kind's word, or no space ends it.
-    let next = text::after_byte(s, text::stop_at(s, read.stop, b' '), b' ')?;
-    Some(Field { value: None, next })
+    text::field_from(s, read.stop, b' ', b' ', read.kind)
 }
 
 // The five fields from a place on.

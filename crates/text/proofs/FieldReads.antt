@@ -2,7 +2,7 @@
 -- is on the bytes.
 use Prim.Native.Nat.{ℕ, suc, ◌+◌}
 use mathlib.Core.Path.{◌≡◌, refl, sym, ◌∙◌}
-use mathlib.Core.Bool.{true, false, and-eq-true_iff, true≢false}
+use mathlib.Core.Bool.{Bool, true, false, and-eq-true_iff, true≢false}
 use mathlib.Core.List.{List, [], ◌∷◌}
 use native.Mathlib.Nat.{zero-add, add-zero}
 use native.Mathlib.Omega.{arith}
@@ -12,8 +12,7 @@ use lib.Seq.{drop-drop, get_or-drop}
 use borrow.Author.Tests.{eqb-true}
 use Rattle.std.specs.Prelude.{Option, Some, None, cond}
 use Rattle.text.specs.Fields.{byte_at, is_stop, field_length, stop_at, stands, ends_by, after, field}
-use Rattle.text.specs.Steps.{after_byte, field_read}
-use Rattle.text.specs.declared.Field.{Field}
+use Rattle.text.specs.Steps.{after_byte, field_from, field_read}
 use Rattle.text.proofs.Places.{byte_found, byte_missed}
 
 -- the first `count` bytes of t are in its field; `all` is what they tell where they are all of it, `some` where they are not,
@@ -108,20 +107,37 @@ module _ {A B : Type 0} (some : A) (sep end : ℕ) (s : List ℕ) (at count : �
     unfolding ends_by
     read_never z = rw (← rest_stop some sep s at count all told r stop i, byte_missed end s (stop_at sep s stop) o q z)
 
--- the same of what a field says to a reader, None where the bytes read are not all of it
-module _ (says : List ℕ → Option ℕ) (sep end : ℕ) (s : List ℕ) (at count : ℕ) (all : Option ℕ) (r : Reads None sep (drop at s) count all (says (field sep s at))) (stop : ℕ) (i : stop ≡ at + count) where
-  out : Option ℕ → ℕ → Field
-  out value next = record { value = value; next = next }
+-- the field whose bytes up to a place were read, as what follows them was found
+module _ (value : Option ℕ) (sep end : ℕ) (s : List ℕ) (stop : ℕ) (m : Option ℕ) (n : m ≡ after_byte end s stop) where
+  pub from_ended : (next : ℕ) → m ≡ Some next → field_from value sep end s stop ≡ Some (record { value = value; next = next })
+  unfolding field_from
+  from_ended next p = let b = byte_found end s stop m n next p in rw (b.0, b.1)
 
-  pub says_ended : is_stop sep end ≡ true → (o : Option ℕ) → o ≡ after_byte end s stop → (next : ℕ) → o ≡ Some next → Some (record { value = all; next = next }) ≡ field_read says sep end s at
-  unfolding field_read out
-  says_ended = read_ended None sep end s at count all (says (field sep s at)) r stop i out
+  module _ (z : m ≡ None) (far : ℕ) (f : far ≡ stop_at sep s stop) (o : Option ℕ) (q : o ≡ after_byte end s far) where
+    pub from_far : (next : ℕ) → o ≡ Some next → field_from value sep end s stop ≡ Some (record { value = None; next = next })
+    unfolding field_from ends_by after
+    from_far next p = let b = byte_found end s far o q next p in rw (byte_missed end s stop m n z, ← f, b.0, b.1)
 
-  module _ (o : Option ℕ) (far : ℕ) (f : far ≡ stop_at sep s stop) (q : o ≡ after_byte end s far) where
-    pub says_far : (m : Option ℕ) → m ≡ after_byte end s stop → m ≡ None → (next : ℕ) → o ≡ Some next → Some (record { value = None; next = next }) ≡ field_read says sep end s at
-    unfolding field_read out
-    says_far = read_far None sep end s at count all (says (field sep s at)) r stop i out o (q ∙ rw f)
+    pub from_never : o ≡ None → field_from value sep end s stop ≡ None
+    unfolding field_from ends_by
+    from_never p = rw (byte_missed end s stop m n z, ← f, byte_missed end s far o q p)
 
-    pub says_never : o ≡ None → None ≡ field_read says sep end s at
-    unfolding field_read out
-    says_never = read_never None sep end s at count all (says (field sep s at)) r stop i out o (q ∙ rw f)
+-- it is what the field says to a reader, None where the bytes read are not all of it
+module _ (says : List ℕ → Option ℕ) (sep end : ℕ) (s : List ℕ) (at count : ℕ) (all : Option ℕ) (r : Reads None sep (drop at s) count all (says (field sep s at))) (stop : ℕ) (i : stop ≡ at + count) (e : is_stop sep end ≡ true) where
+  pub from_says : field_from all sep end s stop ≡ field_read says sep end s at
+  unfolding field_from field_read ends_by after
+  from_says = go (stands end s stop) (stands end s (stop_at sep s at)) refl refl
+    where
+      told : Option ℕ
+      told = says (field sep s at)
+
+      far : stop_at sep s stop ≡ stop_at sep s at
+      far = rest_stop None sep s at count all told r stop i
+
+      go : (b c : Bool) → stands end s stop ≡ b → stands end s (stop_at sep s at) ≡ c → field_from all sep end s stop ≡ field_read says sep end s at
+      go true c h k =
+          let p = here None sep s at count all told r stop i end e h in
+          let g : stands end s (stop_at sep s at) ≡ true = rw (← p) h in
+          rw (h, g, told_all None sep s at count all told r stop i end e h, ← p)
+      go false true h k = rw (h, far, k, told_some None sep s at count all told r stop i end h k)
+      go false false h k = rw (h, far, k)

@@ -36,6 +36,12 @@ unfoldable pub first_count : List ℕ → ℕ
 first_count [] = zero
 first_count (b ∷ t) = cond (eqb b 48) 1 (cond (is_digit b) (suc (more_count (b - 48) t)) zero)
 
+-- the field whose bytes up to a place were read and say this: nothing, where `end` ends it further on
+unfoldable pub field_from : Option ℕ → ℕ → ℕ → List ℕ → ℕ → Option Field
+field_from value sep end s stop =
+    cond (stands end s stop) (Some (record { value = value; next = stop + 1 }))
+    (cond (ends_by sep end s stop) (Some (record { value = None; next = after sep s stop })) None)
+
 -- the field at a place, if `end` ends it: what its text says to a reader, and the place after it
 unfoldable pub field_read : (List ℕ → Option ℕ) → ℕ → ℕ → List ℕ → ℕ → Option Field
 field_read says sep end s at = cond (ends_by sep end s at) (Some (record { value = says (field sep s at); next = after sep s at })) None

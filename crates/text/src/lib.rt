@@ -4,7 +4,7 @@
 
 ghost use Rattle.std.specs.Prelude.{◌≡◌, true, not, ◌+◌, ◌≤◌, ◌<◌, length, drop, position};
 ghost use Rattle.text.specs.Fields.{is_stop, stop_at, is_graphic, below};
-ghost use Rattle.text.specs.Steps.{after_byte, after_key, more_value, more_count, first_value, first_count, field_read, graphic_line};
+ghost use Rattle.text.specs.Steps.{after_byte, after_key, more_value, more_count, first_value, first_count, field_from, field_read, graphic_line};
 ghost use Rattle.text.specs.Numbers.{bounded, number_of};
 
 // What a field says, if it says anything, and the place after the byte that ends it.
@@ -64,7 +64,6 @@ fn first_stop(t: &[u8], sep: u8) -> Option<usize>
 // The place of the first byte `sep` or byte 10 from a place on, or the end.
 #[tactic(auto, using(crate::proofs::Stops::stop_found))]
 pub fn stop_at(s: &[u8], at: usize, sep: u8) -> usize
-    requires { sep ≤ 32 }
     ensures { result ≡ stop_at sep s.now at }
 {
     let rest = rest(s, at);
@@ -121,21 +120,25 @@ fn first_digits(s: &[u8], at: usize) -> Run
     }
 }
 
+// The field whose bytes up to a place were read and say this: nothing, where it has more of them.
+#[tactic(auto, using(crate::proofs::FieldReads::from_ended, crate::proofs::FieldReads::from_far, crate::proofs::FieldReads::from_never))]
+pub fn field_from(s: &[u8], stop: usize, sep: u8, end: u8, value: Option<u32>) -> Option<Field>
+    ensures { result ≡ field_from value sep end s.now stop }
+{
+    if let Some(next) = after_byte(s, stop, end) {
+        return Some(Field { value, next });
+    }
+    let next = after_byte(s, stop_at(s, stop, sep), end)?;
+    Some(Field { value: None, next })
+}
+
 // The field at a place, with the number that it spells.
 pub fn number(s: &[u8], at: usize, sep: u8, end: u8) -> Option<Field>
     requires { (sep ≤ 32) × (is_stop sep end ≡ true) }
     ensures { result ≡ field_read number_of sep end s.now at }
 {
     let read = first_digits(s, at);
-    if let Some(next) = after_byte(s, read.stop, end) {
-        return Some(Field {
-            value: read.value,
-            next,
-        });
-    }
-    // The field has other bytes after these digits, so that it spells no number, or `end` does not end it.
-    let next = after_byte(s, stop_at(s, read.stop, sep), end)?;
-    Some(Field { value: None, next })
+    field_from(s, read.stop, sep, end, read.value)
 }
 
 // The place after a key, if it stands at a place.
