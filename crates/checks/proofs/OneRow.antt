@@ -12,21 +12,22 @@ use Rattle.table.specs.Rows.{kind_at, side_at, end_at}
 use Rattle.kinds.specs.declared.Kind.{Kind}
 use Rattle.kinds.specs.Steps.{side_below}
 use Rattle.kinds.proofs.Below.{true_not_false, both_true}
+use Rattle.refusals.specs.declared.Refusal.{Refusal}
 use Rattle.refusals.specs.declared.Refusal.TheVariants.{WrongSide, WrongEnd, TooDeep}
 use Rattle.checks.specs.Checks.{Checked}
 use Rattle.refusals.specs.Refusals.{refused_at}
 use Rattle.checks.specs.Checks.{passed}
 use Rattle.checks.specs.Checks.{and_then, first_from, when_held, fields_at, fields_of, enclosing, end_fits, depth_at, ends_at, ends_of, checked_rows}
-use Rattle.checks.specs.Steps.{Held, end_right, RowTold, end_refusal, refused_of, alone_at}
+use Rattle.checks.specs.Steps.{Held, end_right, RowTold, refused_of, alone_at}
 use Rattle.checks.proofs.Rows.{Checking, checking_step, checking_stop, from_zero, checking_upto, both_pass}
 use Rattle.checks.proofs.Room.{holds_true}
 use Rattle.checks.proofs.FieldLaws.{unknown_told, side_told}
 
 -- the row is refused by itself; where its fields are right it is so for its depth, or for its end
-abbrev pub RefusedFor : List ℕ → ℕ → ℕ → ℕ → Bool → Type 0
-RefusedFor rows count names row deep = and_then (fields_at rows names row) (refused_at (end_refusal deep) row) ≡ alone_at rows count names row
+abbrev pub RefusedFor : List ℕ → ℕ → ℕ → ℕ → Refusal → Type 0
+RefusedFor rows count names row why = and_then (fields_at rows names row) (refused_at why row) ≡ alone_at rows count names row
 
-pub unknown_refused : (rows : List ℕ) (count names row k : ℕ) → k ≡ kind_at rows row → 66 ≤ k → RefusedFor rows count names row false
+pub unknown_refused : (rows : List ℕ) (count names row k : ℕ) → k ≡ kind_at rows row → 66 ≤ k → RefusedFor rows count names row WrongEnd
 unfolding alone_at
 unknown_refused rows count names row k i u = rw (unknown_told rows names row k i u)
 
@@ -54,7 +55,7 @@ module _ (rows : List ℕ) (count names row : ℕ) (numbers : Kind) (least most 
   unfolding alone_at ends_at between
   row_is = rw (fields_are, b.fits, b.deep)
 
-  pub row_wrong : r ≡ false → RefusedFor rows count names row false
+  pub row_wrong : r ≡ false → RefusedFor rows count names row WrongEnd
   row_wrong z = rw (fields_are, row_is) (go between sided (sym told ∙ z))
     where
       go : (x y : Bool)
@@ -69,7 +70,7 @@ module _ (rows : List ℕ) (count names row : ℕ) (numbers : Kind) (least most 
     both_right : (between ≡ true) × (sided ≡ true)
     both_right = both_true between sided (sym told ∙ y)
 
-    pub row_deep : 100 ≤ depth → RefusedFor rows count names row true
+    pub row_deep : 100 ≤ depth → RefusedFor rows count names row TooDeep
     row_deep h = rw (fields_are, row_is, both_right.0, both_right.1, le-ltb depth 100 h)
 
     pub row_right : depth < 100 → alone_at rows count names row ≡ passed
@@ -103,10 +104,10 @@ module _ (rows : List ℕ) (count names : ℕ) (h : Held rows count) where
     ends_left = ends_all ∙ from_zero (ends_at rows count) count ∙ checking_step ends_from l
 
     -- the table is refused as `refuse` tells
-    pub refused_checked : (deep : Bool) (out : Checked) → RefusedFor rows count names n deep → out ≡ refused_of rows count names n deep → out ≡ checked_rows rows count names
+    pub refused_checked : (why : Refusal) (out : Checked) → RefusedFor rows count names n why → out ≡ refused_of rows count names n why → out ≡ checked_rows rows count names
     unfolding alone_at refused_of checked_rows
-    refused_checked deep out t o = go (fields_at rows names n) refl
+    refused_checked why out t o = go (fields_at rows names n) refl
       where
         go : (f : Checked) → fields_at rows names n ≡ f → out ≡ checked_rows rows count names
-        go (Ok u) p = let q : ends_at rows count n ≡ refused_at (end_refusal deep) n = sym (rw p at t) in o ∙ rw (fields_left, ends_left, q)
+        go (Ok u) p = let q : ends_at rows count n ≡ refused_at why n = sym (rw p at t) in o ∙ rw (fields_left, ends_left, q)
         go (Err e) p = let q : first_from (fields_at rows names) (count - n) n ≡ Err e = sym fields_from.same ∙ checking_stop fields_from l e.refusal e.place p in o ∙ rw (fields_left, q)

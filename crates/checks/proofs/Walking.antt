@@ -14,6 +14,8 @@ use Rattle.table.specs.Rows.{kind_at, end_at, Nested}
 use Rattle.kinds.specs.declared.Kind.{Kind}
 use Rattle.kinds.specs.Kinds.{kinds, entry}
 use Rattle.kinds.specs.Steps.{numbers, items_number}
+use Rattle.refusals.specs.declared.Refusal.{Refusal}
+use Rattle.refusals.specs.declared.Refusal.TheVariants.{WrongEnd, TooDeep}
 use Rattle.checks.specs.Checks.{Checked}
 use Rattle.checks.specs.Checks.{passed}
 use Rattle.checks.specs.declared.OpenRow.{OpenRow}
@@ -159,23 +161,23 @@ module _ (rows : List ℕ) (count names start : ℕ) (now : OpenRows) (row first
     bounds = record { fits = rw (enclosed, add-one); deep = rw (← w.kept, last_length) (omega arith) }
 
     -- it is refused by itself
-    refused : (deep : Bool) (out : Checked) → RefusedFor rows count names row deep → out ≡ refused_of rows count names row deep → out ≡ checked_rows rows count names
-    refused deep out t o = refused_checked rows count names w.held row row_below w.right deep out t o
+    refused : (why : Refusal) (out : Checked) → RefusedFor rows count names row why → out ≡ refused_of rows count names row why → out ≡ checked_rows rows count names
+    refused why out t o = refused_checked rows count names w.held row row_below w.right why out t o
 
     module _ (k : ℕ) (i : k ≡ kind_at rows row) where
-      pub walking_unknown : (out : Checked) → 66 ≤ k → out ≡ refused_of rows count names row false → out ≡ checked_rows rows count names
-      walking_unknown out m o = refused false out (unknown_refused rows count names row k i m) o
+      pub walking_unknown : (out : Checked) → 66 ≤ k → out ≡ refused_of rows count names row WrongEnd → out ≡ checked_rows rows count names
+      walking_unknown out m o = refused WrongEnd out (unknown_refused rows count names row k i m) o
 
       pub walking_read : (entries : List Kind) (d : Kind) → k < 66 → entries ≡ map numbers kinds → RowRead rows row (get_or entries k d)
       walking_read entries d m t = read_row rows names row k i entries d row_held m t
 
     module _ (n : Kind) (b : Bool) (q : RowTold rows names row n (row + 1) most b) where
-      pub walking_wrong : (out : Checked) → not b ≡ true → out ≡ refused_of rows count names row false → out ≡ checked_rows rows count names
-      walking_wrong out z o = refused false out (row_wrong rows count names row n (row + 1) most now.depth bounds b q (not-true b z)) o
+      pub walking_wrong : (out : Checked) → not b ≡ true → out ≡ refused_of rows count names row WrongEnd → out ≡ checked_rows rows count names
+      walking_wrong out z o = refused WrongEnd out (row_wrong rows count names row n (row + 1) most now.depth bounds b q (not-true b z)) o
 
       module _ (y : not b ≡ false) where
-        pub walking_deep : (out : Checked) → 100 ≤ now.depth → out ≡ refused_of rows count names row true → out ≡ checked_rows rows count names
-        walking_deep out l o = refused true out (row_deep rows count names row n (row + 1) most now.depth bounds b q (not-false b y) l) o
+        pub walking_deep : (out : Checked) → 100 ≤ now.depth → out ≡ refused_of rows count names row TooDeep → out ≡ checked_rows rows count names
+        walking_deep out l o = refused TooDeep out (row_deep rows count names row n (row + 1) most now.depth bounds b q (not-false b y) l) o
 
         -- or taken by the row that it stands in
         module _ (end : ℕ) (e : end ≡ end_at rows row) (l : now.depth < 100) (k : ℕ) (i : k ≡ kind_at rows row) (after : OpenRow) (f : ℕ) (x : Takes (row_at now.rows (now.depth - 1)) k first after f) where
