@@ -41,11 +41,11 @@ fn of_fields(checked: Result<(), Refused>) -> Result<(), Refused> {
 
 // The same rows, each with the side number 0 and, if its kind is none, the kind `default`.
 fn without_fields(rows: &mut [u32]) {
-    for i in 0..rows.len() / 5 {
-        if 65 < rows[5 * i] {
-            rows[5 * i] = 9;
+    for row in rows.chunks_exact_mut(5) {
+        if 65 < row[0] {
+            row[0] = 9;
         }
-        rows[5 * i + 1] = 0;
+        row[1] = 0;
     }
 }
 
