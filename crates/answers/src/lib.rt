@@ -10,7 +10,8 @@ use da::DaGiveUp;
 use refusals::Refusal;
 use writing::Text;
 
-// One of: falls with written or not; jumps; a give-up with reason, lo and hi; a refusal with its place.
+// One of: falls with written or not; jumps; a give-up with reason, lo and hi; a refusal with its place. These two are no `Refused`: three of
+// the four who answer so name them apart.
 #[derive(Clone, Copy)]
 pub enum Answer {
     Falls(bool),

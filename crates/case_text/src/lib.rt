@@ -161,7 +161,8 @@ pub fn set_row(rows: &mut [u32], i: usize, kind: u32, side: u32, end: u32)
     }
 }
 
-// The same rows as blocks: a table of which the ends alone are left, since blocks may stand in blocks.
+// The same rows as blocks: a table of which the ends alone are left, since blocks may stand in blocks. By the numbers of rows, of which the
+// promise on the ends speaks; with chunks_exact_mut `returns` stayed open.
 pub fn as_blocks(rows: &mut [u32])
     ensures { EndsKept rows.old rows.new }
 {

@@ -17,7 +17,11 @@ fn answer(rt: &impl Print, title: &str, checked: Result<(), Refused>) -> io::Res
     match checked {
         Ok(()) => print!(rt; "{title} 0"),
         Err(refused) => {
-            print!(rt; "{title} {} at {}", refusals::number_of(refused.refusal), refused.place)
+            print!(rt;
+                "{title} {} at {}",
+                refusals::number_of(refused.refusal),
+                refused.place
+            )
         }
     }
 }
@@ -37,11 +41,11 @@ fn of_fields(checked: Result<(), Refused>) -> Result<(), Refused> {
 
 // The same rows, each with the side number 0 and, if its kind is none, the kind `default`.
 fn without_fields(rows: &mut [u32]) {
-    for i in 0..rows.len() / 5 {
-        if 65 < rows[5 * i] {
-            rows[5 * i] = 9;
+    for row in rows.chunks_exact_mut(5) {
+        if 65 < row[0] {
+            row[0] = 9;
         }
-        rows[5 * i + 1] = 0;
+        row[1] = 0;
     }
 }
 
@@ -61,7 +65,11 @@ fn report(
     let mut kinds = space;
     without_fields(&mut kinds);
     rt.write_all(title)?;
-    answer(rt, ": fields", of_fields(checks::check(&space[..numbers], count, names)))?;
+    answer(
+        rt,
+        ": fields",
+        of_fields(checks::check(&space[..numbers], count, names)),
+    )?;
     answer(rt, ", ends", checks::check(&blocks[..numbers], count, 1))?;
     answer(rt, ", children", checks::check(&kinds[..numbers], count, 1))?;
     rt.write_all(b"\n")
@@ -70,7 +78,13 @@ fn report(
 fn row_of(rows: &mut [u32], i: usize, text: &[u8]) {
     let (kind, text) = case_text::split(text, b' ');
     let (side, end) = case_text::split(text, b' ');
-    case_text::set_row(rows, i, case_text::read_kind(kind), case_text::field(side), case_text::field(end));
+    case_text::set_row(
+        rows,
+        i,
+        case_text::read_kind(kind),
+        case_text::field(side),
+        case_text::field(end),
+    );
 }
 
 // Sets the rows that a text gives.

@@ -20,6 +20,7 @@ use reads::Iff;
 use std::io;
 
 const MOST_ROWS: usize = 2001;
+
 const NUMBERS: usize = 10005;
 
 // Rows that are added one after the other, in front of zeros.
@@ -139,7 +140,11 @@ fn say_effect(rt: &impl Print, effect: ExprEffect) -> io::Result<()> {
         ExprDa::Writes => "Writes",
         ExprDa::Reads => "Reads",
     };
-    print!(rt; ", {word} {} {}", u8::from(effect.when_true), u8::from(effect.when_false))
+    print!(rt;
+        ", {word} {} {}",
+        u8::from(effect.when_true),
+        u8::from(effect.when_false)
+    )
 }
 
 // Kinds from 40 on are of expressions and targets.
@@ -147,11 +152,20 @@ fn answer(rt: &impl Print, rows: &[u32], count: usize, local: usize) -> io::Resu
     requires { Nested rows.now 0 count }
 {
     rt.write_all(b": first")?;
-    say_mention(rt, reads::first_mention(rows, Iff::Skipped, local, 0, count))?;
-    say_mention(rt, reads::first_mention(rows, Iff::Included, local, 0, count))?;
+    say_mention(
+        rt,
+        reads::first_mention(rows, Iff::Skipped, local, 0, count),
+    )?;
+    say_mention(
+        rt,
+        reads::first_mention(rows, Iff::Included, local, 0, count),
+    )?;
     let kind = table::wide(rows.first().copied().unwrap_or(0));
     if kinds::is_statement(kind) {
-        print!(rt; ", no_ref {}", u8::from(reads::stmt_no_ref(rows, local, 0, count)))
+        print!(rt;
+            ", no_ref {}",
+            u8::from(reads::stmt_no_ref(rows, local, 0, count))
+        )
     } else if 40 <= kind {
         say_effect(rt, expr_effect::expr_writes_when(rows, local, 0, count))
     } else {
@@ -183,7 +197,13 @@ fn one_case(rt: &impl Print, text: &[u8]) -> io::Result<()> {
     let mut blocks = rows.numbers;
     case_text::as_blocks(&mut blocks);
     rt.write_all(title)?;
-    check_and_answer(rt, &rows.numbers, &blocks, rows.count, case_text::decimal(local))?;
+    check_and_answer(
+        rt,
+        &rows.numbers,
+        &blocks,
+        rows.count,
+        case_text::decimal(local),
+    )?;
     rt.write_all(b"\n")
 }
 

@@ -53,7 +53,8 @@ fn next_byte<R: Read>(input: &mut R) -> io::Result<Option<u8>>
 fn with_digit(size: usize, digit: u8) -> usize
     requires { 48 ≤ digit }
 {
-    size.saturating_mul(10).saturating_add(usize::from(digit - b'0'))
+    size.saturating_mul(10)
+        .saturating_add(usize::from(digit - b'0'))
 }
 
 // The rest of a size's line, after its first digit.

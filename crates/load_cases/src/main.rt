@@ -50,7 +50,10 @@ fn put_sign<'a, 'b>(out: &'b mut Sheet, text: &'a [u8], turn: usize) -> &'a [u8]
     match text {
         [] => text,
         [b'\\', digits @ ..] => {
-            put(out, &[case_text::hex_byte(case_text::nth(digits, 0), case_text::nth(digits, 1))]);
+            put(
+                out,
+                &[case_text::hex_byte(case_text::nth(digits, 0), case_text::nth(digits, 1))],
+            );
             &digits[digits.len().min(2)..]
         }
         [byte, rest @ ..] => {
@@ -98,19 +101,18 @@ fn build(text: &[u8]) -> Sheet {
 }
 
 fn say_record(rt: &impl Print, record: Record) -> io::Result<()> {
-    print!(
-        rt;
+    print!(rt;
         ": done names={} rows={} local={} start={} sole={}",
-        record.names,
-        record.rows,
-        record.local,
-        record.start,
-        record.sole
+        record.names, record.rows, record.local, record.start, record.sole
     )
 }
 
 fn say_tables(rt: &impl Print, rows: &[u32], names: &[u32]) -> io::Result<()> {
-    print!(rt; " tables {} {}", case_text::digest(rows), case_text::digest(names))
+    print!(rt;
+        " tables {} {}",
+        case_text::digest(rows),
+        case_text::digest(names)
+    )
 }
 
 fn say_name(
@@ -146,7 +148,11 @@ fn load_into(rt: &impl Print, bytes: &[u8], rows: &mut [u32], names: &mut [u32])
             say_names(rt, bytes, record, names)
         }
         Err(refused) => {
-            print!(rt; ": refused {} at {}", refusals::number_of(refused.refusal), refused.place)?;
+            print!(rt;
+                ": refused {} at {}",
+                refusals::number_of(refused.refusal),
+                refused.place
+            )?;
             say_tables(rt, rows, names)
         }
     }
@@ -160,7 +166,12 @@ fn load_case(rt: &impl Print, text: &[u8]) -> io::Result<()> {
     let row_count = case_text::decimal(row_numbers).min(rows.len());
     let name_count = case_text::decimal(name_numbers).min(names.len());
     let sheet = build(text);
-    load_into(rt, sheet.as_slice(), &mut rows[..row_count], &mut names[..name_count])
+    load_into(
+        rt,
+        sheet.as_slice(),
+        &mut rows[..row_count],
+        &mut names[..name_count],
+    )
 }
 
 fn name_of(
