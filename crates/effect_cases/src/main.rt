@@ -12,12 +12,12 @@
 #![tactic(auto)]
 
 ghost use Rattle.std.specs.Prelude.{◌≤◌};
-ghost use Rattle.table.specs.Rows.{Nested};
 ghost use Rattle.case_text.specs.RowTexts.{EndsKept};
 
 use effect_rules::{ExprDa, ExprEffect};
 use reads::Iff;
 use std::io;
+use table::Siblings;
 
 const MOST_ROWS: usize = 2001;
 
@@ -148,26 +148,18 @@ fn say_effect(rt: &impl Print, effect: ExprEffect) -> io::Result<()> {
 }
 
 // Kinds from 40 on are of expressions and targets.
-fn answer(rt: &impl Print, rows: &[u32], count: usize, local: usize) -> io::Result<()>
-    requires { Nested rows.now 0 count }
-{
+fn answer(rt: &impl Print, rows: Siblings, local: usize) -> io::Result<()> {
     rt.write_all(b": first")?;
-    say_mention(
-        rt,
-        reads::first_mention(rows, Iff::Skipped, local, 0, count),
-    )?;
-    say_mention(
-        rt,
-        reads::first_mention(rows, Iff::Included, local, 0, count),
-    )?;
-    let kind = table::wide(rows.first().copied().unwrap_or(0));
+    say_mention(rt, reads::first_mention(rows, Iff::Skipped, local))?;
+    say_mention(rt, reads::first_mention(rows, Iff::Included, local))?;
+    let Some(row) = rows.first() else {
+        return Ok(());
+    };
+    let kind = row.kind();
     if kinds::is_statement(kind) {
-        print!(rt;
-            ", no_ref {}",
-            u8::from(reads::stmt_no_ref(rows, local, 0, count))
-        )
+        print!(rt; ", no_ref {}", u8::from(reads::stmt_no_ref(rows, local)))
     } else if 40 <= kind {
-        say_effect(rt, expr_effect::expr_writes_when(rows, local, 0, count))
+        say_effect(rt, expr_effect::expr_writes_when(rows, local))
     } else {
         Ok(())
     }
@@ -185,7 +177,14 @@ fn check_and_answer(
     requires { EndsKept rows.now blocks.now }
 {
     match checks::check(blocks, count, 1) {
-        Ok(()) => answer(rt, rows, count, local),
+        Ok(()) => {
+            let all = Siblings {
+                table: rows,
+                from: 0,
+                to: count,
+            };
+            answer(rt, all, local)
+        }
         Err(_) => rt.write_all(b": refused"),
     }
 }

@@ -14,7 +14,9 @@ same_ends rows blocks count k n = record {
   nests = λ i j a b c d. rw (← k.ends i, ← k.ends j) (n.nests i j a b c (rw (k.ends i) d));
 }
 
-pub answer-requires : goal.answer-requires
-answer-requires g c =
-    same_ends c.args.rows.now c.args.blocks.now c.args.count c.requires
-    (checked_children c.args.blocks.now c.args.count 1 c.check.result c.check.ensures c.in-Ok.is).ends.nested
+pub invariant_of-all : goal.invariant_of-all
+invariant_of-all g c = record {
+  nested =
+      same_ends c.args.rows.now c.args.blocks.now c.args.count c.requires
+      (checked_children c.args.blocks.now c.args.count 1 c.check.result c.check.ensures c.in-Ok.is).ends.nested;
+}
