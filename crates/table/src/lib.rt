@@ -1,6 +1,5 @@
-// Rows of a lent table, five numbers a row: kind, side, lo, hi, end. The readers ask that the row is in the table; `row_end`
-// and `next_at` also tell that what they step to nests. Whoever walks a tree has that from the types: `Siblings` and `Node` are parts of a
-// table whose ends nest.
+// Rows of a lent table, five numbers a row: kind, side, lo, hi, end. The readers ask that the row is in the table. Whoever walks a tree has
+// from the types that its ends nest: `Siblings` and `Node` are parts of such a table.
 #![tactic(auto)]
 
 ghost use Rattle.std.specs.Prelude.{◌≡◌, ◌+◌, ◌*◌, ◌≤◌, ◌<◌, length, leb, IfSome, IfNone};
@@ -51,7 +50,7 @@ pub fn end_at(rows: &[u32], i: usize) -> usize
 }
 
 // The end of row i, the first of the rows i up to `to`.
-pub fn row_end(rows: &[u32], i: usize, to: usize) -> usize
+fn row_end(rows: &[u32], i: usize, to: usize) -> usize
     requires { (Nested rows.now i to) × (i < to) }
     ensures { RowEnd rows.now i to result }
 {
@@ -59,7 +58,7 @@ pub fn row_end(rows: &[u32], i: usize, to: usize) -> usize
 }
 
 // The sibling after the first of the rows i up to `to`; `to` where there is none.
-pub fn next_at(rows: &[u32], i: usize, to: usize) -> usize
+fn next_at(rows: &[u32], i: usize, to: usize) -> usize
     requires { Nested rows.now i to }
     ensures { NextRow rows.now i to result }
 {
