@@ -26,6 +26,7 @@ fn walk_answer(res: DaResult) -> Answer
 }
 
 // The walk of row 0, from the record's start, in a table that passes the check.
+// A record's flags are numbers, since a caller may lend any record: 1 is set, as the definition says.
 pub fn walk(record: Record, rows: &[u32], names: &[u32]) -> Answer
     requires { table_checked «record» rows.now ≡ passed }
     ensures { result ≡ walk_answer (walked «record» rows.now names.now) }

@@ -63,21 +63,21 @@ module _ (before s : List ℕ) (at : ℕ) (o : Option ℕ) (q : o ≡ after_key 
   unfolding name_line
   name_key z = rw (no_key (bytes "name=") s at o q z)
 
-  module _ (from : ℕ) (e : o ≡ Some from) (m : Option GraphicLine) (r : m ≡ graphic_line s from) where
-    pub name_end : m ≡ None → Err WrongLine ≡ name_line before s at
+  module _ (from : ℕ) (e : o ≡ Some from) (g : GraphicLine) (r : g ≡ graphic_line s from) where
+    pub name_end : g.next ≡ None → Err WrongLine ≡ name_line before s at
     unfolding name_line
-    name_end z = rw (no_end (bytes "name=") s at o q from e (line_missed s from m r z))
+    name_end z = rw (no_end (bytes "name=") s at o q from e (line_missed s from g r z))
 
-    module _ (g : GraphicLine) (d : m ≡ Some g) where
+    module _ (next : ℕ) (d : g.next ≡ Some next) where
       pub name_bytes : g.all ≡ false → Err WrongName ≡ name_line before s at
       unfolding name_line
       name_bytes f =
           rw
-          (key_and_end (bytes "name=") s at o q from e (line_ends s from m r g d), ← (key_found (bytes "name=") s at o q from e).1, ← line_told s from m r g d, f)
+          (key_and_end (bytes "name=") s at o q from e (line_ends s from g r next d), ← (key_found (bytes "name=") s at o q from e).1, ← line_told s from g r next d, f)
 
-      pub name_is : g.all ≡ true → (out : Result (Line Name) Refusal) → out ≡ name_of before (take (g.stop - from) (drop from s)) from g.next → out ≡ name_line before s at
+      pub name_is : g.all ≡ true → (out : Result (Line Name) Refusal) → out ≡ name_of before (take (g.stop - from) (drop from s)) from next → out ≡ name_line before s at
       unfolding name_line
       name_is t out p =
           p
           ∙ rw
-          (field_part 10 s from g.stop (line_text_lem s from m r g d t), key_and_end (bytes "name=") s at o q from e (line_ends s from m r g d), ← (key_found (bytes "name=") s at o q from e).1, ← line_told s from m r g d, t, line_next s from m r g d)
+          (field_part 10 s from g.stop (line_text_lem s from g r t), key_and_end (bytes "name=") s at o q from e (line_ends s from g r next d), ← (key_found (bytes "name=") s at o q from e).1, ← line_told s from g r next d, t, line_next s from g r next d)

@@ -104,11 +104,12 @@ pub fn name_line(s: &[u8], at: usize, before: &[u8]) -> Result<Line<Name>, Refus
     ensures { result ≡ name_line before.now s.now at }
 {
     let from = text::after_key(s, at, b"name=").ok_or(Refusal::WrongLine)?;
-    let read = text::graphic_line(s, from).ok_or(Refusal::WrongLine)?;
+    let read = text::graphic_line(s, from);
+    let next = read.next.ok_or(Refusal::WrongLine)?;
     if !read.all {
         return Err(Refusal::WrongName);
     }
-    named(&s[from..read.stop], before, from, read.next)
+    named(&s[from..read.stop], before, from, next)
 }
 
 // The field at a place, with the kind that it names.

@@ -1,7 +1,7 @@
 -- What a caller knows of a key, a field or a line from what a call answers of it. No induction: the definitions are opened once, here.
 use Prim.Native.Nat.{ℕ, ◌+◌, ◌-◌, ◌≤◌, ◌<◌}
 use mathlib.Core.Path.{◌≡◌, refl, sym, ap, ◌∙◌}
-use mathlib.Core.Bool.{Bool, true, false, cond, and-eq-true_iff, true≢false}
+use mathlib.Core.Bool.{Bool, true, false, cond, ◌&&◌, and-eq-true_iff, true≢false}
 use mathlib.Core.List.{List}
 use native.Mathlib.Nat.{add-sub_cancel_left}
 use native.Mathlib.Omega.{arith}
@@ -68,42 +68,53 @@ unfolding stop_at field_of
 field_part sep s at stop e = rw (e, add-sub_cancel_left)
 
 -- a line
-module _ (s : List ℕ) (at : ℕ) (o : Option GraphicLine) (q : o ≡ graphic_line s at) where
-  pub line_missed : o ≡ None → ends_by 10 10 s at ≡ false
+module _ (s : List ℕ) (at : ℕ) (g : GraphicLine) (q : g ≡ graphic_line s at) where
+  line_all : g.all ≡ ends_by 10 10 s at && all_graphic (field 10 s at)
   unfolding graphic_line
-  line_missed = not_chosen o (ends_by 10 10 s at) (record { all = all_graphic (field 10 s at); stop = at + graphic_length (drop at s); next = after 10 s at }) q
+  line_all = ap (λ (g : GraphicLine). g.all) q
 
-  module _ (g : GraphicLine) (p : o ≡ Some g) where
-    line_found : (ends_by 10 10 s at ≡ true) × (g ≡ record { all = all_graphic (field 10 s at); stop = at + graphic_length (drop at s); next = after 10 s at })
-    unfolding graphic_line
-    line_found = chosen o (ends_by 10 10 s at) (record { all = all_graphic (field 10 s at); stop = at + graphic_length (drop at s); next = after 10 s at }) q g p
+  line_length : g.stop ≡ at + graphic_length (drop at s)
+  unfolding graphic_line
+  line_length = ap (λ (g : GraphicLine). g.stop) q
+
+  line_after : g.next ≡ cond (ends_by 10 10 s at) (Some (after 10 s at)) None
+  unfolding graphic_line
+  line_after = ap (λ (g : GraphicLine). g.next) q
+
+  pub line_from : at ≤ g.stop
+  line_from = omega (arith, line_length)
+
+  pub line_missed : g.next ≡ None → ends_by 10 10 s at ≡ false
+  line_missed = not_chosen g.next (ends_by 10 10 s at) (after 10 s at) line_after
+
+  -- that byte 10 ends
+  module _ (next : ℕ) (p : g.next ≡ Some next) where
+    line_found : (ends_by 10 10 s at ≡ true) × (next ≡ after 10 s at)
+    line_found = chosen g.next (ends_by 10 10 s at) (after 10 s at) line_after next p
 
     pub line_ends : ends_by 10 10 s at ≡ true
     line_ends = line_found.0
 
-    pub line_next : g.next ≡ after 10 s at
-    line_next = ap (λ (g : GraphicLine). g.next) line_found.1
+    pub line_next : next ≡ after 10 s at
+    line_next = line_found.1
 
     pub line_told : g.all ≡ all_graphic (field 10 s at)
-    line_told = ap (λ (g : GraphicLine). g.all) line_found.1
+    line_told = line_all ∙ rw line_ends
 
-    line_far : g.stop ≡ at + graphic_length (drop at s)
-    line_far = ap (λ (g : GraphicLine). g.stop) line_found.1
+  -- that byte 10 ends, and whose text has bytes from 33 to 126 alone
+  module _ (t : g.all ≡ true) where
+    line_whole : (ends_by 10 10 s at ≡ true) × (all_graphic (field 10 s at) ≡ true)
+    line_whole = (and-eq-true_iff _ _).0 (sym line_all ∙ t)
 
-    pub line_from : at ≤ g.stop
-    line_from = omega (arith, line_far)
+    pub line_text_lem : g.stop ≡ stop_at 10 s at
+    line_text_lem = go (eqb (graphic_length (drop at s)) (field_length 10 (drop at s))) refl
+      where
+        go : (b : Bool) → eqb (graphic_length (drop at s)) (field_length 10 (drop at s)) ≡ b → g.stop ≡ stop_at 10 s at
+        go true e = whole_stop false 10 s at _ _ _ (shows (drop at s)) g.stop line_length (eqb-true _ _ e)
+        go false e = absurd (true≢false (sym line_whole.1 ∙ (shows (drop at s)).part (eqb-false _ _ e)))
 
-    -- whose text has bytes from 33 to 126 alone
-    module _ (t : g.all ≡ true) where
-      pub line_text_lem : g.stop ≡ stop_at 10 s at
-      line_text_lem = go (eqb (graphic_length (drop at s)) (field_length 10 (drop at s))) refl
-        where
-          go : (b : Bool) → eqb (graphic_length (drop at s)) (field_length 10 (drop at s)) ≡ b → g.stop ≡ stop_at 10 s at
-          go true e = whole_stop false 10 s at _ _ _ (shows (drop at s)) g.stop line_far (eqb-true _ _ e)
-          go false e = absurd (true≢false (sym t ∙ line_told ∙ (shows (drop at s)).part (eqb-false _ _ e)))
-
-      pub line_within : g.stop ≤ length s
-      unfolding ends_by stands
-      line_within =
-          let h : stop_at 10 s at < length s = ltb-true _ _ ((and-eq-true_iff (ltb (stop_at 10 s at) (length s)) _).0 line_found.0).0 in
-          omega (arith, line_text_lem)
+    pub line_within : g.stop ≤ length s
+    unfolding ends_by stands
+    line_within =
+        let h : stop_at 10 s at < length s = ltb-true _ _ ((and-eq-true_iff (ltb (stop_at 10 s at) (length s)) _).0 line_whole.0).0 in
+        omega (arith, line_text_lem)

@@ -10,7 +10,7 @@ use lib.Dec.{ltb}
 use lib.ListN.{length, drop, get_or}
 use lib.Seq.{drop-drop, get_or-drop}
 use borrow.Author.Tests.{eqb-true}
-use Rattle.std.specs.Prelude.{Option, Some, None, cond}
+use Rattle.std.specs.Prelude.{Option, Some, None}
 use Rattle.text.specs.Fields.{byte_at, is_stop, field_length, stop_at, stands, ends_by, after, field}
 use Rattle.text.specs.Steps.{after_byte, field_from, field_read}
 use Rattle.text.proofs.Places.{byte_found, byte_missed}
@@ -81,31 +81,6 @@ module _ {A : Type 0} (some : A) (sep : ℕ) (s : List ℕ) (at count : ℕ) (al
   -- another byte follows them, and `end` ends the field: they are not all of it
   pub told_some : (end : ℕ) → stands end s stop ≡ false → stands end s (stop_at sep s at) ≡ true → told ≡ some
   told_some end n h = r.part (λ e. true≢false (sym h ∙ rw (← whole_stop e) n))
-
--- what is answered of a field, as the bytes read and what follows them were found: what they tell and the place after the field,
--- where `end` ends it
-module _ {A B : Type 0} (some : A) (sep end : ℕ) (s : List ℕ) (at count : ℕ) (all told : A) (r : Reads some sep (drop at s) count all told) (stop : ℕ) (i : stop ≡ at + count) (out : A → ℕ → B) where
-  -- `end` follows them
-  pub read_ended : is_stop sep end ≡ true → (o : Option ℕ) → o ≡ after_byte end s stop → (next : ℕ) → o ≡ Some next → Some (out all next) ≡ cond (ends_by sep end s at) (Some (out told (after sep s at))) None
-  unfolding ends_by after
-  read_ended e o q next p =
-      let b = byte_found end s stop o q next p in
-      let h = here some sep s at count all told r stop i end e b.0 in
-      rw (← told_all some sep s at count all told r stop i end e b.0, ← h, b.0, b.1)
-
-  -- another byte follows them, and `end` ends the field further on, or nothing does
-  module _ (o : Option ℕ) (q : o ≡ after_byte end s (stop_at sep s stop)) where
-    pub read_far : (m : Option ℕ) → m ≡ after_byte end s stop → m ≡ None → (next : ℕ) → o ≡ Some next → Some (out some next) ≡ cond (ends_by sep end s at) (Some (out told (after sep s at))) None
-    unfolding ends_by after
-    read_far m n z next p =
-        let b = byte_found end s (stop_at sep s stop) o q next p in
-        let h = rest_stop some sep s at count all told r stop i in
-        let f : stands end s (stop_at sep s at) ≡ true = rw (← h) b.0 in
-        rw (told_some some sep s at count all told r stop i end (byte_missed end s stop m n z) f, f, ← h, b.1)
-
-    pub read_never : o ≡ None → None ≡ cond (ends_by sep end s at) (Some (out told (after sep s at))) None
-    unfolding ends_by
-    read_never z = rw (← rest_stop some sep s at count all told r stop i, byte_missed end s (stop_at sep s stop) o q z)
 
 -- the field whose bytes up to a place were read, as what follows them was found
 module _ (value : Option ℕ) (sep end : ℕ) (s : List ℕ) (stop : ℕ) (m : Option ℕ) (n : m ≡ after_byte end s stop) where

@@ -51,6 +51,7 @@ unfoldable pub graphic_length : List ℕ → ℕ
 graphic_length [] = zero
 graphic_length (b ∷ t) = cond (is_graphic b) (suc (graphic_length t)) zero
 
--- the text from a place up to the end of its line, if byte 10 ends it
-unfoldable pub graphic_line : List ℕ → ℕ → Option GraphicLine
-graphic_line s at = cond (ends_by 10 10 s at) (Some (record { all = all_graphic (field 10 s at); stop = at + graphic_length (drop at s); next = after 10 s at })) None
+-- the line from a place on: whether byte 10 ends it and its text is all graphic, the place of the first other byte, and the place after it, if it ends so
+unfoldable pub graphic_line : List ℕ → ℕ → GraphicLine
+graphic_line s at =
+    record { all = ends_by 10 10 s at && all_graphic (field 10 s at); stop = at + graphic_length (drop at s); next = cond (ends_by 10 10 s at) (Some (after 10 s at)) None }

@@ -21,12 +21,13 @@ struct Run {
     stop: usize,
 }
 
-// Whether a line's text has only bytes from 33 to 126, the place of the first other byte, and the place after the line.
+// Whether byte 10 ends a line whose text has only bytes from 33 to 126, the place of the first other byte, and the place after the
+// line, if byte 10 ends it.
 #[derive(Clone, Copy)]
 pub struct GraphicLine {
     pub all: bool,
     pub stop: usize,
-    pub next: usize,
+    pub next: Option<usize>,
 }
 
 // The bytes from a place on.
@@ -161,25 +162,26 @@ fn first_not_graphic(t: &[u8]) -> Option<usize>
     t.iter().position(|b| !b.is_ascii_graphic())
 }
 
-// The text from a place up to the end of its line, if byte 10 ends it.
-pub fn graphic_line(s: &[u8], at: usize) -> Option<GraphicLine>
+// The text from a place up to the end of its line.
+#[tactic(auto, using(crate::proofs::Stops::graphic_found, crate::proofs::GraphicLaws::line_ended, crate::proofs::GraphicLaws::line_far))]
+pub fn graphic_line(s: &[u8], at: usize) -> GraphicLine
     ensures { result ≡ graphic_line s.now at }
 {
     let rest = rest(s, at);
     let stop = at + first_not_graphic(rest).unwrap_or(rest.len());
-    if let Some(next) = after_byte(s, stop, b'\n') {
-        return Some(GraphicLine {
+    let next = after_byte(s, stop, b'\n');
+    if next.is_some() {
+        return GraphicLine {
             all: true,
             stop,
             next,
-        });
+        };
     }
-    let next = after_byte(s, stop_at(s, stop, b'\n'), b'\n')?;
-    Some(GraphicLine {
+    GraphicLine {
         all: false,
         stop,
-        next,
-    })
+        next: after_byte(s, stop_at(s, stop, b'\n'), b'\n'),
+    }
 }
 
 // Whether the first text comes before the second in byte order.
