@@ -362,7 +362,7 @@ facts_effects x nil i = refl
 facts_effects x (node k s lo hi cs others) zero = refl
 facts_effects x (node k s lo hi cs others) (suc i) = facts_effects x others i
 
--- and of the first row, the reference test and whether it is the plain local: what the code asks by `expr_no_ref` and by its path
+-- and of the first row, the reference test and whether it is the plain local: what the code asks by `no_ref` and by its path
 module _ (x k s lo hi : ℕ) (cs others : Forest) where
   pub facts_refers : (nth no_facts 0 (expr_facts x (node k s lo hi cs others))).refers ≡ refers Skipped x (node k s lo hi cs nil)
   unfolding fold facts_at

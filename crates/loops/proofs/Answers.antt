@@ -1,4 +1,4 @@
--- What the functions answer, from what stands in the code where they return; the loops go from row to row, by the steps of Gather. What
+-- What the functions answer, from what stands in the code where they return; what a pass over all rows comes to is told by Gather. What
 -- the yes of `stmt_cannot_escape` means, and the arms of the Rust, are cited. Nothing recurses here.
 use Prim.Native.Nat.{ℕ, ◌-◌, ◌<◌}
 use mathlib.Core.Path.{◌≡◌, refl, sym, ap, ◌∙◌}

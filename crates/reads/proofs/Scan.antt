@@ -22,7 +22,7 @@ use Rattle.reads.specs.declared.Iff.{Iff}
 use Rattle.std.specs.Prelude.{Option, None, Some}
 use Rattle.reads.specs.Mentions.{mentions_at, in_row_order, passed_over, skips_iff, without_iff, seen_below, seen_at, seen, some, refers, first_true, mention_in, MentionAt, MentionTold}
 
--- the first answer, or where it is nowhere the second
+-- the first answer, or where there is none the second
 abbrev pub or_else : Option ℕ → Option ℕ → Option ℕ
 or_else (Some r) m = Some r
 or_else None m = m

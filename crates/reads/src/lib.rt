@@ -1,4 +1,4 @@
-// The reference test: one flat pass over the rows of a range, and its uses by their names in da/reads.rs.
+// The reference test: one flat pass over the rows of a range, and what da/reads.rs asks by it.
 #![tactic(auto)]
 
 ghost use Rattle.std.specs.Prelude.{◌≡◌, true, ◌+◌, ◌*◌, ◌≤◌, ◌<◌, length};

@@ -1,4 +1,4 @@
--- The text of a number, digit by digit from its last: the code writes backwards into 20 bytes what the definition appends. What is left of the number
+-- The text of a number, digit by digit from its last: it has at most 20 digits, and is what std calls the decimal text. What is left of the number
 -- falls to a tenth.
 use Prim.Native.Nat.{ℕ, zero, suc, ◌+◌, ◌/◌, ◌%◌, ◌^◌, ◌≤◌, ◌<◌}
 use mathlib.Core.Path.{◌≡◌, sym, ◌∙◌}

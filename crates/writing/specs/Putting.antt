@@ -1,4 +1,4 @@
--- Numbers or bytes put into a lent slice: what stands in it then, and the place after them. Definitions only.
+-- Numbers or bytes put into a slice: what stands in it then, and the place after them. Definitions only.
 use Rattle.std.specs.Prelude.{ℕ, ◌+◌, ◌≡◌, List, length}
 use Rattle.std.proofs.lemmas.List.Edits.{sets}
 
