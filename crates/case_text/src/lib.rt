@@ -78,7 +78,7 @@ fn digest_step(d: usize, x: u32) -> usize
     ensures upper_bound { result < 4294967296 }
     ensures value { result ≡ digest_step d x }
 {
-    (d * 31 + table::wide(x) + 1) % 4294967296
+    (d * 31 + x as usize + 1) % 4294967296
 }
 
 pub fn digest(numbers: &[u32]) -> usize

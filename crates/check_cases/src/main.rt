@@ -98,7 +98,7 @@ fn fill(rows: &mut [u32], text: &[u8]) {
 fn blocks(rows: &mut [u32], count: u32, nested: bool) {
     for i in 0..count {
         let end = if nested { count } else { i + 1 };
-        case_text::set_row(rows, table::wide(i), 20, 0, end);
+        case_text::set_row(rows, i as usize, 20, 0, end);
     }
     case_text::set_row(rows, 0, 20, 0, count);
 }
@@ -122,9 +122,9 @@ fn one_case(rt: &impl Print, title: &[u8], text: &[u8]) -> io::Result<()> {
         rt,
         title,
         space,
-        table::wide(case_text::field(numbers)),
-        table::wide(count),
-        table::wide(case_text::field(names)),
+        case_text::field(numbers) as usize,
+        count as usize,
+        case_text::field(names) as usize,
     )
 }
 

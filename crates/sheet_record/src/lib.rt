@@ -48,21 +48,21 @@ pub fn offset_at(names: &[u32], number: usize) -> usize
     requires { 3 * number + 2 < length names.now }
     ensures { result ≡ offset_at names.now number }
 {
-    table::wide(names[3 * number])
+    names[3 * number] as usize
 }
 
 pub fn size_at(names: &[u32], number: usize) -> usize
     requires { 3 * number + 2 < length names.now }
     ensures { result ≡ size_at names.now number }
 {
-    table::wide(names[3 * number + 1])
+    names[3 * number + 1] as usize
 }
 
 pub fn mark_at(names: &[u32], number: usize) -> usize
     requires { 3 * number + 2 < length names.now }
     ensures { result ≡ mark_at names.now number }
 {
-    table::wide(names[3 * number + 2])
+    names[3 * number + 2] as usize
 }
 
 // Whether each jump mark of the first names of a table is 0 or 1.

@@ -2,5 +2,4 @@ pub mod Ranges
 pub mod Tree
 pub mod Fold
 pub mod Same
-pub mod Loops
 pub mod Parts

@@ -6,26 +6,19 @@ ghost use Rattle.std.specs.Prelude.{◌≡◌, ◌+◌, ◌*◌, ◌≤◌, ◌<
 ghost use Rattle.table.specs.Rows.{kind_at, side_at, lo_at, hi_at, end_at, Nested};
 ghost use Rattle.table.specs.Steps.{RowEnd, NextRow, RowAlone};
 
-// A number of the table as an index: usize has no From<u32>, and each `as` has to be proved.
-pub fn wide(x: u32) -> usize
-    ensures { result ≡ x }
-{
-    x as usize
-}
-
 // The five numbers of a row. Each is one index, so one function with a const parameter below them would be no shorter.
 pub fn kind_at(rows: &[u32], i: usize) -> usize
     requires { 5 * i + 4 < length rows.now }
     ensures { result ≡ kind_at rows.now i }
 {
-    wide(rows[5 * i])
+    rows[5 * i] as usize
 }
 
 pub fn side_at(rows: &[u32], i: usize) -> usize
     requires { 5 * i + 4 < length rows.now }
     ensures { result ≡ side_at rows.now i }
 {
-    wide(rows[5 * i + 1])
+    rows[5 * i + 1] as usize
 }
 
 pub fn lo_at(rows: &[u32], i: usize) -> u32
@@ -46,7 +39,7 @@ pub fn end_at(rows: &[u32], i: usize) -> usize
     requires { 5 * i + 4 < length rows.now }
     ensures { result ≡ end_at rows.now i }
 {
-    wide(rows[5 * i + 4])
+    rows[5 * i + 4] as usize
 }
 
 // The end of row i, the first of the rows i up to `to`.
