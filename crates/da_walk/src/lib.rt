@@ -44,7 +44,6 @@ fn da_inner(ctx: &Context, rows: Siblings, assigned: bool) -> DaResult
 // Whether the first of these rows need not be walked, since the local is written and stays so: a statement that does nothing but fall, or a
 // timing control of such a one or of none. A no says nothing.
 fn passes_over(rows: Siblings, assigned: bool) -> bool
-    requires { rows.from < rows.to }
     ensures { PassedOver (forest rows.entry) assigned result }
 {
     if !assigned {
