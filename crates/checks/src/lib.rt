@@ -13,18 +13,19 @@ ghost use Rattle.checks.specs.Steps.{Held, Settles, Takes, Closes, CanPlace, Pla
 use kinds::{Items, Kind};
 use refusals::{Refusal, Refused};
 
-// An open row: its end, the items of its kind that are left for the children to come, and its number.
+// An open row: its end, the items of its kind that are left for the children to come, and its number. Its two row numbers are u32, so that
+// it is 16 bytes: with 24 a row costs 6 instructions more, and clearing the 2,400 bytes of 100 of them 2,500 a check.
 #[derive(Clone, Copy)]
 struct OpenRow {
-    end: usize,
+    end: u32,
+    own: u32,
     left: Items,
-    own: usize,
 }
 
 const UNUSED: OpenRow = OpenRow {
     end: 0,
-    left: 0,
     own: 0,
+    left: 0,
 };
 
 // The open rows, the outermost first: the first `depth` of these.
@@ -56,7 +57,7 @@ fn all_repeat(mut items: Items) -> bool
 impl OpenRow {
     // The row has no more children: the first row found, which is this one if it misses a child and stands before the others.
     #[tactic(auto, using(crate::proofs::Items::settling))]
-    fn settle(self, first: usize) -> usize
+    fn settle(self, first: u32) -> u32
         ensures { Settles self.left self.own first result }
     {
         // Most rows have no items left: without this line a row costs 8 instructions more.
@@ -72,7 +73,7 @@ impl OpenRow {
 
     // The row takes a child of this kind: the first row found.
     #[tactic(auto, using(crate::proofs::Items::taking))]
-    fn take(&mut self, kind: usize, first: usize) -> usize
+    fn take(&mut self, kind: usize, first: u32) -> u32
         ensures { Takes self.old kind first self.new result }
     {
         while !kinds::takes_first(self.left, kind) {
@@ -92,7 +93,7 @@ impl OpenRow {
 impl OpenRows {
     // The open rows that end by this row are closed.
     #[tactic(auto, using(crate::proofs::Placing::closing))]
-    fn close(&mut self, row: usize, mut first: usize) -> usize
+    fn close(&mut self, row: u32, mut first: u32) -> u32
         requires { self.old.depth ≤ 100 }
         ensures rows { self.new.rows ≡ self.old.rows }
         ensures closes { Closes self.old.rows row self.old.depth first self.new.depth result }
@@ -110,7 +111,7 @@ impl OpenRows {
 
     // A row stands in the open rows: it is opened; or it holds no rows, and those that end with it are closed.
     #[tactic(auto, using(crate::proofs::Placing::placing))]
-    fn place(&mut self, row: OpenRow, first: usize) -> usize
+    fn place(&mut self, row: OpenRow, first: u32) -> u32
         requires { CanPlace self.old row }
         ensures { PlacesRow self.old row first self.new result }
     {
@@ -124,7 +125,7 @@ impl OpenRows {
     }
 
     // The innermost open row takes a row of this kind, and the row is placed.
-    fn enter(&mut self, row: OpenRow, kind: usize, first: usize) -> usize
+    fn enter(&mut self, row: OpenRow, kind: usize, first: u32) -> u32
         requires { CanEnter self.old row }
         ensures { Enters self.old row kind first self.new result }
     {
@@ -192,7 +193,7 @@ fn check_rest(
     count: usize,
     names: usize,
     open_rows: &mut OpenRows,
-    mut first: usize,
+    mut first: u32,
 ) -> Result<(), Refused>
     requires { RootPlaced rows.now count names open_rows.old first }
     ensures { result ≡ checked_rows rows.now count names }
@@ -205,7 +206,7 @@ fn check_rest(
             return refuse(rows, count, names, row, Refusal::WrongEnd);
         }
         let entry = entries[kind];
-        let most = open_rows.rows[open_rows.depth - 1].end;
+        let most = open_rows.rows[open_rows.depth - 1].end as usize;
         if !end_right(rows, names, row, entry, row + 1, most) {
             return refuse(rows, count, names, row, Refusal::WrongEnd);
         }
@@ -213,13 +214,14 @@ fn check_rest(
             return refuse(rows, count, names, row, Refusal::TooDeep);
         }
         let child = OpenRow {
-            end: table::end_at(rows, row),
+            end: table::end_at(rows, row) as u32,
+            own: row as u32,
             left: entry.children,
-            own: row,
         };
         first = open_rows.enter(child, kind, first);
         row += 1;
     }
+    let first = first as usize;
     if first < count {
         return Err(Refused {
             refusal: Refusal::WrongChildren,
@@ -235,15 +237,15 @@ fn check_from_root(
     count: usize,
     names: usize,
     items: Items,
-    start: usize,
+    start: u32,
 ) -> Result<(), Refused>
     requires { Started rows.now count names items start }
     ensures { result ≡ checked_rows rows.now count names }
 {
     let root = OpenRow {
-        end: count,
-        left: items,
+        end: count as u32,
         own: 0,
+        left: items,
     };
     let mut open_rows = OpenRows {
         rows: [UNUSED; 100],
@@ -255,10 +257,11 @@ fn check_from_root(
 
 // The first row found before any is looked at: none, which is the count, or row 0 if its kind is no statement's.
 #[tactic(auto, unfolding(crate::specs::Steps::root_found))]
-fn root_found(count: usize, kind: usize) -> usize
+fn root_found(count: usize, kind: usize) -> u32
+    requires { count ≤ 2000 }
     ensures { result ≡ root_found count kind }
 {
-    if kinds::is_statement(kind) { count } else { 0 }
+    if kinds::is_statement(kind) { count as u32 } else { 0 }
 }
 
 // Fields, ends and depth, children: refusals 5 and 6, then 7 and 8, then 9, each in row order. Row 0 is looked at first: every other
