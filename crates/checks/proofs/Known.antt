@@ -8,7 +8,6 @@ use mathlib.Core.Logic.{⊎_elim}
 use native.Mathlib.Omega.{arith}
 use native.Mathlib.Nat.{eq-or-lt_of_le, le_of_suc-le-suc}
 use native.Mathlib.Numerals.{add-one}
-use lib.ListN.{length, set}
 use lib.Dec.{ltb}
 use borrow.Author.Tests.{ltb-true, ltb-false}
 use Rattle.table.specs.Rows.{kind_at, end_at, tree, Nested}
@@ -19,8 +18,9 @@ use Rattle.kinds.specs.Steps.{items_number}
 use Rattle.kinds.proofs.Steps.{Left}
 use Rattle.checks.specs.Checks.{kind_alone, kinds_of, children_fit}
 use Rattle.checks.specs.declared.OpenRow.{OpenRow}
-use Rattle.checks.specs.Steps.{row_at, Settles, whole, missing, Took, taken, unfit, Takes, Closes, stays, closes}
-use Rattle.checks.proofs.Kept.{row_same, row_other}
+use Rattle.checks.specs.declared.Stack.{Stack}
+use Rattle.checks.specs.Steps.{row_at, put, Settles, whole, missing, Took, taken, unfit, Takes, Closes, stays, closes}
+use Rattle.checks.proofs.Kept.{Within, row_same, row_other}
 
 -- the children of an open row against its items: a row up to it is found already; or its children from row p on fit the items left exactly
 -- where all of them fit its kind
@@ -36,18 +36,18 @@ pub record StillOpen (rows : List ℕ) (first : ℕ) (o : OpenRow) (p : ℕ) : T
   pub fit : Fit rows first o.own o.left o.end p
 
 -- the first n rows that are kept are open: of the last the children before row p are taken, of each other those before the end of the next
-unfoldable pub Opens : List ℕ → ℕ → List OpenRow → ℕ → ℕ → Type 0
+unfoldable pub Opens : List ℕ → ℕ → Stack → ℕ → ℕ → Type 0
 Opens rows first kept zero p = Unit {0}
 Opens rows first kept (suc n) p = StillOpen rows first (row_at kept n) p × Opens rows first kept n (row_at kept n).end
 
 -- a row that was seen: it is open, or its children fit, or a row up to it is found
-pub data Seen (rows : List ℕ) (first : ℕ) (kept : List OpenRow) (depth i : ℕ) : Type 0 where
+pub data Seen (rows : List ℕ) (first : ℕ) (kept : Stack) (depth i : ℕ) : Type 0 where
   still : (j : ℕ) → j < depth → (row_at kept j).own ≡ i → Seen rows first kept depth i
   right : children_fit rows i ≡ true → Seen rows first kept depth i
   later : first ≤ i → Seen rows first kept depth i
 
 -- the rows below `row` were seen, of which `depth` are open; `first` is the first found, or where the search started
-pub record Known (rows : List ℕ) (start : ℕ) (kept : List OpenRow) (depth row p first : ℕ) : Type 0 where
+pub record Known (rows : List ℕ) (start : ℕ) (kept : Stack) (depth row p first : ℕ) : Type 0 where
   pub low : first ≤ start
   pub refused : first < start → children_fit rows first ≡ false
   pub opens : Opens rows first kept depth p
@@ -80,13 +80,13 @@ module _ (rows : List ℕ) (first r : ℕ) (h : r ≤ first) where
   open_less : {o : OpenRow} {p : ℕ} → StillOpen rows first o p → StillOpen rows r o p
   open_less o = record { is = o.is; after = o.after; upto = o.upto; fit = fit_less o.fit }
 
-  seen_less : {kept : List OpenRow} {depth i : ℕ} → Seen rows first kept depth i → Seen rows r kept depth i
+  seen_less : {kept : Stack} {depth i : ℕ} → Seen rows first kept depth i → Seen rows r kept depth i
   seen_less (still j l e) = still j l e
   seen_less (right e) = right e
   seen_less (later l) = later (omega arith)
 
   -- and so do other rows where none is open
-  opens_less : (kept kept' : List OpenRow) (n p : ℕ) → ((j : ℕ) → j < n → row_at kept' j ≡ row_at kept j) → Opens rows first kept n p → Opens rows r kept' n p
+  opens_less : (kept kept' : Stack) (n p : ℕ) → ((j : ℕ) → j < n → row_at kept' j ≡ row_at kept j) → Opens rows first kept n p → Opens rows r kept' n p
   unfolding Opens
   opens_less kept kept' zero p a o = tt
   opens_less kept kept' (suc n) p a o = rw (a n (omega arith)) (open_less o.0, opens_less kept kept' n (row_at kept n).end (λ j l. a j (omega arith)) o.1)
@@ -94,7 +94,7 @@ module _ (rows : List ℕ) (first r : ℕ) (h : r ≤ first) where
 -- row `own` has no more children: its verdict
 record Verdict (rows : List ℕ) (first own r : ℕ) : Type 0 where
   noted : Noted rows first r
-  seen : (kept : List OpenRow) (depth : ℕ) → Seen rows r kept depth own
+  seen : (kept : Stack) (depth : ℕ) → Seen rows r kept depth own
 
 verdict : (rows : List ℕ) (first own left end p r : ℕ) → end ≤ p → Fit rows first own left end p → Settles left own first r → Verdict rows first own r
 verdict rows first own left end p r h (found l) (whole e t) = record { noted = noted_same rows first r e; seen = λ kept depth. later (omega arith) }
@@ -104,7 +104,7 @@ verdict rows first own left end p r h (so_far l) (missing e t) =
     record { noted = noted_least rows first own r e (λ q. sym (t _ (rw (fold_none kind_alone rows p end h) at l))); seen = λ kept depth. later (omega arith) }
 
 -- the last open row ends, and is closed
-close_last : (rows : List ℕ) (start : ℕ) (kept : List OpenRow) (d row p first r : ℕ)
+close_last : (rows : List ℕ) (start : ℕ) (kept : Stack) (d row p first r : ℕ)
     → Known rows start kept (suc d) row p first
     → (row_at kept d).end ≤ p
     → Settles (row_at kept d).left (row_at kept d).own first r
@@ -127,7 +127,7 @@ close_last rows start kept d row p first r w h s =
     go i v (still j l e) = ⊎_elim (λ (z : j ≡ d). rw (← e, z) (v.seen kept d)) (λ k. still j k e) (eq-or-lt_of_le (le_of_suc-le-suc l))
 
 -- and so are all that end by row p
-pub close_known : (rows : List ℕ) (start : ℕ) (kept : List OpenRow) (row p depth first d f : ℕ)
+pub close_known : (rows : List ℕ) (start : ℕ) (kept : Stack) (row p depth first d f : ℕ)
     → Closes kept p depth first d f
     → Known rows start kept depth row p first
     → Known rows start kept d row p f
@@ -158,14 +158,14 @@ fit_taken rows first own left end row items r g h (so_far l) (unfit e t) =
     record { noted = noted_least rows first own r e (λ q. sym (t _ _ (rw (kinds_some g h) at l))); fit = found (omega arith) }
 
 -- the last open row takes it
-pub take_known : (rows : List ℕ) (count start : ℕ) (kept : List OpenRow) (n row first : ℕ) (o : OpenRow) (r : ℕ)
+pub take_known : (rows : List ℕ) (count start : ℕ) (kept : Stack) (n row first : ℕ) (o : OpenRow) (r : ℕ)
     → Nested rows 0 count
     → row < count
     → row < (row_at kept n).end
-    → n < length kept
+    → Within kept n
     → Takes (row_at kept n) (kind_at rows row) first o r
     → Known rows start kept (suc n) row row first
-    → Known rows start (set kept n o) (suc n) row (end_at rows row) r
+    → Known rows start (put kept n o) (suc n) row (end_at rows row) r
 unfolding Opens
 take_known rows count start kept n row first o r g b l s t w =
     let before = w.opens.0 in
@@ -184,12 +184,12 @@ take_known rows count start kept n row first o r g b l s t w =
           upto = omega (arith, same_end, before.is, g.nests (row_at kept n).own row (omega arith) (omega (arith, before.after)) before.after (omega (arith, before.is)));
           fit = rw (same_end, same_own) f.fit;
         },
-        rw same_end (opens_less rows first r f.noted.low kept (set kept n o) n (row_at kept n).end (λ j h. row_other kept n o j h) w.opens.1),
+        rw same_end (opens_less rows first r f.noted.low kept (put kept n o) n (row_at kept n).end (λ j h. row_other kept n o j h) w.opens.1),
       );
       seen = λ i h. go same_own i (seen_less rows first r f.noted.low (w.seen i h));
     }
   where
-    go : o.own ≡ (row_at kept n).own → (i : ℕ) → Seen rows r kept (suc n) i → Seen rows r (set kept n o) (suc n) i
+    go : o.own ≡ (row_at kept n).own → (i : ℕ) → Seen rows r kept (suc n) i → Seen rows r (put kept n o) (suc n) i
     go q i (right e) = right e
     go q i (later e) = later e
     go q i (still j h e) =
@@ -204,13 +204,13 @@ fit_new : (rows : List ℕ) (first : ℕ) (o : OpenRow) → o.end ≡ end_at row
 fit_new rows first o e q = so_far (record { items = (entry (kind_at rows o.own)).children; number = q; same = rw e })
 
 -- it is opened
-pub open_known : (rows : List ℕ) (start : ℕ) (kept : List OpenRow) (d : ℕ) (o : OpenRow) (first : ℕ)
+pub open_known : (rows : List ℕ) (start : ℕ) (kept : Stack) (d : ℕ) (o : OpenRow) (first : ℕ)
     → o.own + 1 ≤ o.end
-    → d < length kept
+    → Within kept d
     → o.end ≡ end_at rows o.own
     → o.left ≡ items_number (entry (kind_at rows o.own)).children
     → Known rows start kept d o.own (end_at rows o.own) first
-    → Known rows start (set kept d o) (d + 1) (o.own + 1) (o.own + 1) first
+    → Known rows start (put kept d o) (d + 1) (o.own + 1) (o.own + 1) first
 unfolding Opens
 open_known rows start kept d o first l s e f w =
     record {
@@ -218,7 +218,7 @@ open_known rows start kept d o first l s e f w =
       refused = w.refused;
       opens = rw (add-one d, row_same kept d o s) (
         record { is = e; after = omega arith; upto = l; fit = fit_new rows first o e f },
-        opens_less rows first first (omega arith) kept (set kept d o) d o.end (λ j h. row_other kept d o j h) (rw (← e) at w.opens),
+        opens_less rows first first (omega arith) kept (put kept d o) d o.end (λ j h. row_other kept d o j h) (rw (← e) at w.opens),
       );
       seen = λ i h. ⊎_elim (λ (z : i ≡ o.own). still d (omega arith) (rw (z, row_same kept d o s))) (λ k. go i (w.seen i k)) (eq-or-lt_of_le (before i h));
     }
@@ -226,13 +226,13 @@ open_known rows start kept d o first l s e f w =
     before : (i : ℕ) → i < o.own + 1 → i ≤ o.own
     before i h = omega arith
 
-    go : (i : ℕ) → Seen rows first kept d i → Seen rows first (set kept d o) (d + 1) i
+    go : (i : ℕ) → Seen rows first kept d i → Seen rows first (put kept d o) (d + 1) i
     go i (right q) = right q
     go i (later q) = later q
     go i (still j h q) = still j (omega arith) (rw (row_other kept d o j h) q)
 
 -- or it holds no rows
-pub leaf_known : (rows : List ℕ) (start : ℕ) (kept : List OpenRow) (d : ℕ) (o : OpenRow) (first r : ℕ)
+pub leaf_known : (rows : List ℕ) (start : ℕ) (kept : Stack) (d : ℕ) (o : OpenRow) (first r : ℕ)
     → o.own < o.end
     → o.end ≤ o.own + 1
     → o.end ≡ end_at rows o.own

@@ -1,7 +1,7 @@
 -- The loop over the rows after row 0. The rows before the one come to are right by themselves, and the ends kept are those of the rows that it stands
 -- in; where the ends of the whole table nest, the children are known as Known says. The rows that are left fall.
 use Prim.Native.Nat.{ℕ, suc, ◌+◌, ◌-◌, ◌*◌, ◌≤◌, ◌<◌}
-use mathlib.Core.Path.{◌≡◌, refl, sym, ap, ◌∙◌}
+use mathlib.Core.Path.{◌≡◌, refl, sym, ap, subst, ◌∙◌}
 use mathlib.Core.Bool.{Bool, true, false, not}
 use mathlib.Core.List.{List, [], ◌∷◌, map}
 use mathlib.Core.Logic.{⊎_elim}
@@ -9,7 +9,7 @@ use native.Mathlib.Omega.{arith}
 use borrow.Author.Tests.{not-true, not-false}
 use native.Mathlib.Nat.{eq-or-lt_of_le}
 use native.Mathlib.Numerals.{add-one}
-use lib.ListN.{length, get_or, set, length-set}
+use lib.ListN.{length, get_or}
 use Rattle.table.specs.Rows.{kind_at, end_at, Nested}
 use Rattle.kinds.specs.declared.Kind.{Kind}
 use Rattle.kinds.specs.Kinds.{kinds, entry}
@@ -19,14 +19,15 @@ use Rattle.refusals.specs.declared.Refusal.TheVariants.{WrongEnd, TooDeep}
 use Rattle.checks.specs.Checks.{Checked}
 use Rattle.checks.specs.Checks.{passed}
 use Rattle.checks.specs.declared.OpenRow.{OpenRow}
+use Rattle.checks.specs.declared.Stack.{Stack}
 use Rattle.checks.specs.declared.OpenRows.{OpenRows}
 use Rattle.checks.specs.Checks.{fields_at, ends_before, above, enclosing, end_fits, depth_at, ends_at, checked_rows}
-use Rattle.checks.specs.Steps.{Held, Settles, Takes, row_at, Closes, PlacesRow, opens, ends_here, Enters, RowRead, RowTold, refused_of, root_found, alone_at, Started, RootPlaced}
+use Rattle.checks.specs.Steps.{Held, Settles, Takes, row_at, put, Sized, Closes, PlacesRow, opens, ends_here, Enters, RowRead, RowTold, refused_of, root_found, alone_at, Started, RootPlaced}
 use Rattle.checks.proofs.Rows.{both_pass}
 use Rattle.checks.proofs.FieldLaws.{read_row}
 use Rattle.checks.proofs.Enclosing.{Rises, end_least, end_after, enclosing_same, enclosing_more}
 use Rattle.checks.proofs.Nest.{RightEnd, right_end, rises_at, root, within, LastAbove, last_above, none_above}
-use Rattle.checks.proofs.Kept.{last_first, top, pushed, retaken, last_length, close_down, close_above}
+use Rattle.checks.proofs.Kept.{within_sized, sized_put, last_first, top, pushed, retaken, last_length, close_down, close_above}
 use Rattle.checks.proofs.OneRow.{RefusedFor, Bounds, unknown_refused, row_wrong, row_deep, row_right, refused_checked}
 use Rattle.checks.proofs.Known.{Opens, Known, close_known, take_known, open_known, leaf_known}
 
@@ -41,7 +42,7 @@ right_ends rows count names i p = right_end rows count i (both_pass (fields_at r
 -- the loop has come to a row
 pub record Walking (rows : List ℕ) (count names start : ℕ) (now : OpenRows) (row first : ℕ) : Type 0 where
   pub held : Held rows count
-  pub room : length now.rows ≡ 100
+  pub room : Sized now.rows
   pub begun : 1 ≤ row
   pub upto : row ≤ count
   pub shallow : now.depth ≤ 100
@@ -50,9 +51,9 @@ pub record Walking (rows : List ℕ) (count names start : ℕ) (now : OpenRows) 
   pub known : Nested rows 0 count → Known rows start now.rows now.depth row row first
 
 -- a row that is right by itself, where the row that it stands in has taken it
-record Taken (rows : List ℕ) (count names start : ℕ) (opened : List OpenRow) (depth : ℕ) (o : OpenRow) (first : ℕ) : Type 0 where
+record Taken (rows : List ℕ) (count names start : ℕ) (opened : Stack) (depth : ℕ) (o : OpenRow) (first : ℕ) : Type 0 where
   held : Held rows count
-  room : length opened ≡ 100
+  room : Sized opened
   below : o.own < count
   shallow : depth < 100
   right : RightBefore rows count names (o.own + 1)
@@ -62,7 +63,7 @@ record Taken (rows : List ℕ) (count names start : ℕ) (opened : List OpenRow)
   known : Nested rows 0 count → Known rows start opened depth o.own (end_at rows o.own) first
 
 -- it is placed, and the loop comes to the next row
-module _ {rows : List ℕ} {count names start : ℕ} {opened : List OpenRow} {depth : ℕ} {o : OpenRow} {first : ℕ} (t : Taken rows count names start opened depth o first) where
+module _ {rows : List ℕ} {count names start : ℕ} {opened : Stack} {depth : ℕ} {o : OpenRow} {first : ℕ} (t : Taken rows count names start opened depth o first) where
   right_here : RightEnd rows count o.own
   right_here = right_ends rows count names o.own (t.right o.own (omega arith))
 
@@ -72,17 +73,17 @@ module _ {rows : List ℕ} {count names start : ℕ} {opened : List OpenRow} {de
   end_past : o.own < o.end
   end_past = omega (arith, t.is, end_after count o.own (end_at rows o.own) (enclosing rows o.own) t.below right_here.fits)
 
-  placed_open : o.own + 1 < o.end → Walking rows count names start (record { rows = set opened depth o; depth = depth + 1 }) (o.own + 1) first
+  placed_open : o.own + 1 < o.end → Walking rows count names start (record { rows = put opened depth o; depth = depth + 1 }) (o.own + 1) first
   placed_open h = record {
     held = t.held;
-    room = length-set opened depth o ∙ t.room;
+    room = sized_put opened depth o t.room;
     begun = omega arith;
     upto = omega (arith, t.below);
     shallow = omega (arith, t.shallow);
     right = t.right;
-    kept = rw (pushed opened depth o (omega (arith, t.room, t.shallow)), t.kept, t.is)
+    kept = rw (pushed opened depth o (within_sized opened depth t.room t.shallow), t.kept, t.is)
         (enclosing_more rows o.own (omega (arith, t.is)) (end_least count o.own (end_at rows o.own) (enclosing rows o.own) rises_here right_here.fits));
-    known = λ g. open_known rows start opened depth o first (omega arith) (omega (arith, t.room, t.shallow)) t.is t.children (t.known g);
+    known = λ g. open_known rows start opened depth o first (omega arith) (within_sized opened depth t.room t.shallow) t.is t.children (t.known g);
   }
 
   placed_leaf : (found d f : ℕ) → o.end ≤ o.own + 1 → Settles o.left o.own first found → Closes opened (o.own + 1) depth found d f → Walking rows count names start (record { rows = opened; depth = d }) (o.own + 1) f
@@ -103,7 +104,7 @@ module _ {rows : List ℕ} {count names start : ℕ} {opened : List OpenRow} {de
 
 -- row 0
 module _ (rows : List ℕ) (count names items start : ℕ) (s : Started rows count names items start) where
-  first_taken : (unused : List OpenRow) → length unused ≡ 100 → Taken rows count names start unused 0 (record { end = count; left = items; own = 0 }) start
+  first_taken : (unused : Stack) → Sized unused → Taken rows count names start unused 0 (record { end = count; left = items; own = 0 }) start
   unfolding last_first enclosing ends_before above Opens
   first_taken unused a = record {
     held = s.held;
@@ -171,7 +172,11 @@ module _ (rows : List ℕ) (count names start : ℕ) (now : OpenRows) (row first
       pub walking_read : (entries : List Kind) (d : Kind) → k < 66 → entries ≡ map numbers kinds → RowRead rows row (get_or entries k d)
       walking_read entries d m t = read_row rows names row k i entries d row_held m t
 
-    module _ (n : Kind) (b : Bool) (q : RowTold rows names row n (row + 1) most b) where
+    -- the innermost open row, as the code has it
+    module _ (n : Kind) (b : Bool) (m : OpenRow) (is : m ≡ row_at now.rows (now.depth - 1)) (q' : RowTold rows names row n (row + 1) m.end b) where
+      q : RowTold rows names row n (row + 1) most b
+      q = subst (λ (o : OpenRow). RowTold rows names row n (row + 1) o.end b) is q'
+
       pub walking_wrong : (out : Checked) → not b ≡ true → out ≡ refused_of rows count names row WrongEnd → out ≡ checked_rows rows count names
       walking_wrong out z o = refused WrongEnd out (row_wrong rows count names row n (row + 1) most now.depth bounds b q (not-true b z)) o
 
@@ -181,35 +186,36 @@ module _ (rows : List ℕ) (count names start : ℕ) (now : OpenRows) (row first
 
         -- or taken by the row that it stands in
         module _ (end : ℕ) (e : end ≡ end_at rows row) (l : now.depth < 100) (k : ℕ) (i : k ≡ kind_at rows row) (after : OpenRow) (f : ℕ) (x : Takes (row_at now.rows (now.depth - 1)) k first after f) where
-          taken : Taken rows count names start (set now.rows (now.depth - 1) after) now.depth (record { end = end; left = n.children; own = row }) f
+          taken : Taken rows count names start (put now.rows (now.depth - 1) after) now.depth (record { end = end; left = n.children; own = row }) f
           taken = record {
             held = w.held;
-            room = length-set now.rows (now.depth - 1) after ∙ w.room;
+            room = sized_put now.rows (now.depth - 1) after w.room;
             below = row_below;
             shallow = l;
             right = λ j p. ⊎_elim (λ (z : j ≡ row). rw z (row_right rows count names row n (row + 1) most now.depth bounds b q (not-false b y) l)) (λ h. w.right j h) (eq-or-lt_of_le (before j p));
             kept = (
                 let z : suc (now.depth - 1) ≡ now.depth = omega arith in
-                rw z at (retaken now.rows (now.depth - 1) after (omega (arith, w.room, w.shallow)) (ap (λ (o : OpenRow). o.end) x.changed)) ∙ w.kept);
+                rw z at (retaken now.rows (now.depth - 1) after (within_sized now.rows (now.depth - 1) w.room (omega (arith, l))) (ap (λ (o : OpenRow). o.end) x.changed)) ∙ w.kept);
             is = e;
             children = q.read.children;
             known = λ g. (
                 let z : suc (now.depth - 1) ≡ now.depth = omega arith in
                 rw z at
-                (take_known rows count start now.rows (now.depth - 1) row first after f g row_below parent.above (omega (arith, w.room, w.shallow)) (rw i at x) (rw z (w.known g))));
+                (take_known rows count start now.rows (now.depth - 1) row first after f g row_below parent.above (within_sized now.rows (now.depth - 1) w.room (omega (arith, l))) (rw i at x) (rw z (w.known g))));
           }
             where
               before : (j : ℕ) → j < row + 1 → j ≤ row
               before j p = omega arith
 
 -- the row come to is entered
-pub walking_next : (rows : List ℕ) (count names start : ℕ) (now : OpenRows) (row first : ℕ) (k : ℕ) (n : Kind) (b : Bool) (end : ℕ) (after : OpenRows) (f : ℕ)
+pub walking_next : (rows : List ℕ) (count names start : ℕ) (now : OpenRows) (row first : ℕ) (k : ℕ) (n : Kind) (b : Bool) (m : OpenRow) (end : ℕ) (after : OpenRows) (f : ℕ)
     → Enters now (record { end = end; left = n.children; own = row }) k first after f
     → not b ≡ false
-    → RowTold rows names row n (row + 1) (row_at now.rows (now.depth - 1)).end b
+    → m ≡ row_at now.rows (now.depth - 1)
+    → RowTold rows names row n (row + 1) m.end b
     → end ≡ end_at rows row
     → k ≡ kind_at rows row
     → Walking rows count names start now row first
     → Walking rows count names start after (row + 1) f
-walking_next rows count names start now row first k n b end after f x y q e i w =
-    placed (taken rows count names start now row first w x.room.some n b q y end e x.room.shallow k i x.after x.found x.takes) after f x.places
+walking_next rows count names start now row first k n b m end after f x y is q e i w =
+    placed (taken rows count names start now row first w x.room.some n b m is q y end e x.room.shallow k i x.after x.found x.takes) after f x.places

@@ -10,6 +10,7 @@ use Rattle.checks.specs.Checks.{Checked}
 use Rattle.refusals.specs.Refusals.{refused_at}
 use Rattle.checks.specs.Checks.{passed}
 use Rattle.checks.specs.declared.OpenRow.{OpenRow}
+use Rattle.checks.specs.declared.Stack.{Stack}
 use Rattle.checks.specs.declared.OpenRows.{OpenRows}
 use Rattle.checks.specs.Checks.{and_then, first_from, fields_at, ends_at}
 
@@ -35,11 +36,21 @@ pub record Takes (before : OpenRow) (kind first : ℕ) (after : OpenRow) (r : �
   pub took : Took before.left kind before.own first after.left r
 
 -- the row at a place of the open rows; past the last one, a row of zeros
-abbrev pub row_at : List OpenRow → ℕ → OpenRow
-row_at rows i = get_or rows i (record { end = 0; left = 0; own = 0 })
+unfoldable pub row_at : Stack → ℕ → OpenRow
+row_at rows i = record { end = get_or rows.ends i 0; left = get_or rows.left i 0; own = get_or rows.own i 0 }
+
+-- the open rows with this one at a place
+abbrev pub put : Stack → ℕ → OpenRow → Stack
+put rows i row = record { ends = set rows.ends i row.end; left = set rows.left i row.left; own = set rows.own i row.own }
+
+-- a hundred rows may be open
+pub record Sized (rows : Stack) : Type 0 where
+  pub ends : length rows.ends ≡ 100
+  pub left : length rows.left ≡ 100
+  pub own : length rows.own ≡ 100
 
 -- the innermost open rows are closed, one by one, up to the first that ends after row `row`; left are so many and this first row found
-pub data Closes (rows : List OpenRow) (row : ℕ) : ℕ → ℕ → ℕ → ℕ → Type 0 where
+pub data Closes (rows : Stack) (row : ℕ) : ℕ → ℕ → ℕ → ℕ → Type 0 where
   stays : {depth first : ℕ} → (0 < depth → row < (row_at rows (depth - 1)).end) → Closes rows row depth first depth first
   closes : {depth first found d f : ℕ}
       → (row_at rows depth).end ≤ row
@@ -55,7 +66,7 @@ pub record CanPlace (at : OpenRows) (row : OpenRow) : Type 0 where
 -- a row is opened, or it holds no rows and those that end with it are closed
 pub data PlacesRow (at : OpenRows) (row : OpenRow) (first : ℕ) (at' : OpenRows) (f : ℕ) : Type 0 where
   opens : row.own + 1 < row.end
-      → at'.rows ≡ set at.rows at.depth row
+      → at'.rows ≡ put at.rows at.depth row
       → at'.depth ≡ at.depth + 1
       → f ≡ first
       → PlacesRow at row first at' f
@@ -78,7 +89,7 @@ pub record Enters (at : OpenRows) (row : OpenRow) (kind first : ℕ) (at' : Open
   pub after : OpenRow
   pub found : ℕ
   pub takes : Takes (row_at at.rows (at.depth - 1)) kind first after found
-  pub places : PlacesRow (record { rows = set at.rows (at.depth - 1) after; depth = at.depth }) row found at' r
+  pub places : PlacesRow (record { rows = put at.rows (at.depth - 1) after; depth = at.depth }) row found at' r
 
 -- a row of the table is of a kind, and the code's numbers for the kind are these
 pub record RowRead (rows : List ℕ) (row : ℕ) (numbers : Kind) : Type 0 where
@@ -120,6 +131,6 @@ pub record RootPlaced (rows : List ℕ) (count names : ℕ) (at : OpenRows) (fir
   pub items : ℕ
   pub start : ℕ
   pub started : Started rows count names items start
-  pub unused : List OpenRow
-  pub room : length unused ≡ 100
+  pub unused : Stack
+  pub room : Sized unused
   pub placed : PlacesRow (record { rows = unused; depth = 0 }) (record { end = count; left = items; own = 0 }) start at first

@@ -4,17 +4,16 @@
 // with it are closed.
 #![tactic(auto)]
 
-ghost use Rattle.std.specs.Prelude.{◌≡◌, List, [], ◌<◌, ◌≤◌, ◌+◌, ◌*◌, length};
-ghost use Rattle.kinds.specs.Kinds.{Item, fits};
-ghost use Rattle.kinds.specs.Steps.{items_number};
+ghost use Rattle.std.specs.Prelude.{◌≡◌, List, [], ◌<◌, ◌≤◌, ◌+◌, ◌*◌, length, map};
+ghost use Rattle.kinds.specs.Kinds.{Item, fits, kinds as kind_list};
+ghost use Rattle.kinds.specs.Steps.{items_number, numbers};
 ghost use Rattle.checks.specs.Checks.{holds, fields_at, checked_rows};
-ghost use Rattle.checks.specs.Steps.{Held, Settles, Takes, Closes, CanPlace, PlacesRow, CanEnter, Enters, RowRead, RowTold, refused_of, root_found, Started, RootPlaced};
+ghost use Rattle.checks.specs.Steps.{Held, Settles, Takes, row_at, put, Closes, CanPlace, PlacesRow, CanEnter, Enters, RowRead, RowTold, refused_of, root_found, Started, RootPlaced};
 
 use kinds::{Items, Kind};
 use refusals::{Refusal, Refused};
 
-// An open row: its end, the items of its kind that are left for the children to come, and its number. Its two row numbers are u32, so that
-// it is 16 bytes: with 24 a row costs 6 instructions more, and clearing the 2,400 bytes of 100 of them 2,500 a check.
+// An open row: its end, the items of its kind that are left for the children to come, and its number.
 #[derive(Clone, Copy)]
 struct OpenRow {
     end: u32,
@@ -22,16 +21,19 @@ struct OpenRow {
     left: Items,
 }
 
-const UNUSED: OpenRow = OpenRow {
-    end: 0,
-    own: 0,
-    left: 0,
-};
+// Open rows by place. One array of `OpenRow` costs 4 instructions a row more to index, and ask on block-2000 is 3.33 of da_stmt for a bar of
+// 3.20; with usize for u32 it is 3.43.
+#[derive(Drop)]
+struct Stack {
+    ends: [u32; 100],
+    own: [u32; 100],
+    left: [Items; 100],
+}
 
 // The open rows, the outermost first: the first `depth` of these.
 #[derive(Drop)]
 struct OpenRows {
-    rows: [OpenRow; 100],
+    rows: Stack,
     depth: usize,
 }
 
@@ -90,6 +92,29 @@ impl OpenRow {
     }
 }
 
+impl Stack {
+    #[tactic(auto, unfolding(crate::specs::Steps::row_at))]
+    fn get(&self, i: usize) -> OpenRow
+        requires { i < 100 }
+        ensures { result ≡ row_at self.now i }
+    {
+        OpenRow {
+            end: self.ends[i],
+            own: self.own[i],
+            left: self.left[i],
+        }
+    }
+
+    fn put(&mut self, i: usize, row: OpenRow)
+        requires { i < 100 }
+        ensures { self.new ≡ put self.old i row }
+    {
+        self.ends[i] = row.end;
+        self.own[i] = row.own;
+        self.left[i] = row.left;
+    }
+}
+
 impl OpenRows {
     // The open rows that end by this row are closed.
     #[tactic(auto, using(crate::proofs::Placing::closing))]
@@ -99,7 +124,7 @@ impl OpenRows {
         ensures closes { Closes self.old.rows row self.old.depth first self.new.depth result }
     {
         while 0 < self.depth {
-            let innermost = self.rows[self.depth - 1];
+            let innermost = self.rows.get(self.depth - 1);
             if row < innermost.end {
                 return first;
             }
@@ -116,7 +141,7 @@ impl OpenRows {
         ensures { PlacesRow self.old row first self.new result }
     {
         if row.own + 1 < row.end {
-            self.rows[self.depth] = row;
+            self.rows.put(self.depth, row);
             self.depth += 1;
             return first;
         }
@@ -125,11 +150,14 @@ impl OpenRows {
     }
 
     // The innermost open row takes a row of this kind, and the row is placed.
+    #[tactic(auto, using(crate::proofs::Placing::entering))]
     fn enter(&mut self, row: OpenRow, kind: usize, first: u32) -> u32
         requires { CanEnter self.old row }
         ensures { Enters self.old row kind first self.new result }
     {
-        let found = self.rows[self.depth - 1].take(kind, first);
+        let mut innermost = self.rows.get(self.depth - 1);
+        let found = innermost.take(kind, first);
+        self.rows.put(self.depth - 1, innermost);
         self.place(row, found)
     }
 }
@@ -192,13 +220,14 @@ fn check_rest(
     rows: &[u32],
     count: usize,
     names: usize,
+    entries: &[Kind; 66],
     open_rows: &mut OpenRows,
     mut first: u32,
 ) -> Result<(), Refused>
-    requires { RootPlaced rows.now count names open_rows.old first }
+    requires entries { entries.now ≡ map numbers kind_list }
+    requires placed { RootPlaced rows.now count names open_rows.old first }
     ensures { result ≡ checked_rows rows.now count names }
 {
-    let entries = kinds::kinds();
     let mut row = 1;
     while 0 < open_rows.depth {
         let kind = table::kind_at(rows, row);
@@ -206,7 +235,7 @@ fn check_rest(
             return refuse(rows, count, names, row, Refusal::WrongEnd);
         }
         let entry = entries[kind];
-        let most = open_rows.rows[open_rows.depth - 1].end as usize;
+        let most = open_rows.rows.get(open_rows.depth - 1).end as usize;
         if !end_right(rows, names, row, entry, row + 1, most) {
             return refuse(rows, count, names, row, Refusal::WrongEnd);
         }
@@ -236,10 +265,12 @@ fn check_from_root(
     rows: &[u32],
     count: usize,
     names: usize,
+    entries: &[Kind; 66],
     items: Items,
     start: u32,
 ) -> Result<(), Refused>
-    requires { Started rows.now count names items start }
+    requires entries { entries.now ≡ map numbers kind_list }
+    requires started { Started rows.now count names items start }
     ensures { result ≡ checked_rows rows.now count names }
 {
     let root = OpenRow {
@@ -248,11 +279,15 @@ fn check_from_root(
         left: items,
     };
     let mut open_rows = OpenRows {
-        rows: [UNUSED; 100],
+        rows: Stack {
+            ends: [0u32; 100],
+            own: [0u32; 100],
+            left: [0usize; 100],
+        },
         depth: 0,
     };
     let first = open_rows.place(root, start);
-    check_rest(rows, count, names, &mut open_rows, first)
+    check_rest(rows, count, names, entries, &mut open_rows, first)
 }
 
 // The first row found before any is looked at: none, which is the count, or row 0 if its kind is no statement's.
@@ -285,5 +320,5 @@ pub fn check(rows: &[u32], count: usize, names: usize) -> Result<(), Refused>
     if !end_right(rows, names, 0, entry, count, count) {
         return refuse(rows, count, names, 0, Refusal::WrongEnd);
     }
-    check_from_root(rows, count, names, entry.children, root_found(count, kind))
+    check_from_root(rows, count, names, &entries, entry.children, root_found(count, kind))
 }
