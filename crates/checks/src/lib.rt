@@ -22,16 +22,12 @@ struct Progress {
     first: usize,
 }
 
+// Whether a table holds so many rows.
+#[tactic(auto, unfolding(crate::specs::Checks::holds))]
 fn held(rows: &[u32], count: usize) -> bool
     ensures { result ≡ holds rows.now count }
 {
-    if count < 1 {
-        return false;
-    }
-    if 2000 < count {
-        return false;
-    }
-    5 * count <= rows.len()
+    (1..=2000).contains(&count) && 5 * count <= rows.len()
 }
 
 fn smaller(a: usize, b: usize) -> usize
@@ -285,13 +281,11 @@ fn check_from_root(
 }
 
 // The first row found before any is looked at: none, which is the count, or row 0 if its kind is no statement's.
+#[tactic(auto, unfolding(crate::specs::Steps::root_found))]
 fn root_found(count: usize, kind: usize) -> usize
     ensures { result ≡ root_found count kind }
 {
-    if kinds::is_statement(kind) {
-        return count;
-    }
-    0
+    if kinds::is_statement(kind) { count } else { 0 }
 }
 
 // Fields, ends and depth, children: refusals 5 and 6, then 7 and 8, then 9, each in row order. Row 0 is looked at first: every other
