@@ -1,5 +1,5 @@
 -- A kind's items against the children, as the code meets them: no child is left, or one is next. The items, as a number, fall in both loops.
-use Prim.Native.Nat.{ℕ, ◌≤◌, ◌<◌}
+use Prim.Native.Nat.{ℕ, min, ◌<◌}
 use mathlib.Core.Path.{◌≡◌, refl, sym, ◌∙◌}
 use mathlib.Core.Bool.{Bool, true, false, not}
 use mathlib.Core.List.{List, [], ◌∷◌}
@@ -7,22 +7,12 @@ use native.Mathlib.Omega.{arith}
 use lib.ListN.{get_or, set}
 use lib.Seq.{set-get_or, set-set}
 use lib.Dec.{eqb}
-use borrow.Author.Tests.{lt-ltb, le-ltb, not-true, not-false}
+use borrow.Author.Tests.{not-true, not-false}
 use Rattle.kinds.specs.Kinds.{Item, fits}
 use Rattle.kinds.specs.Steps.{items_number, takes_first, repeats_first, rest_first, after_first}
 use Rattle.kinds.proofs.Numbers.{repeats_none}
 use Rattle.kinds.proofs.Steps.{Left, left_taken, left_skipped, left_refused, left_passed, left_ended, rest_less}
-use Rattle.checks.specs.Steps.{lesser, Settles, whole, missing, taken, unfit, Takes}
-
-pub lesser_first : (a b : ℕ) → a < b → a ≡ lesser a b
-unfolding lesser
-lesser_first a b h = rw (lt-ltb a b h)
-
-pub lesser_second : (a b : ℕ) → b ≤ a → b ≡ lesser a b
-unfolding lesser
-lesser_second a b h = rw (le-ltb a b h)
-
-pub ruleset lessers = (lesser_first, lesser_second)
+use Rattle.checks.specs.Steps.{Settles, whole, missing, taken, unfit, Takes}
 
 -- the loop of `all_repeat`: the items left when no child is
 pub record LeftOver (items left : ℕ) : Type 0 where
@@ -55,7 +45,7 @@ module _ (left own first : ℕ) where
     pub settle_whole : r ≡ true → Settles left own first first
     settle_whole y = whole refl (λ b l. sym y ∙ told b l)
 
-    pub settle_missing : (out : ℕ) → r ≡ false → out ≡ lesser own first → Settles left own first out
+    pub settle_missing : (out : ℕ) → r ≡ false → out ≡ min own first → Settles left own first out
     settle_missing out n e = missing e (λ b l. sym n ∙ told b l)
 
 pub ruleset settling = (settle_none, settle_whole, settle_missing)
@@ -70,7 +60,7 @@ taking_start before i kind = record { changed = sym (set-get_or before i 0); sam
 
 module _ (before : List ℕ) (i kind : ℕ) (left : List ℕ) (items : ℕ) (w : Taking before i kind left items) (own : List ℕ) (first : ℕ) (b : Bool) (t : b ≡ takes_first items kind) (r : Bool) (q : r ≡ repeats_first items) where
   module _ (y : not b ≡ true) where
-    pub taking_refused : (out : ℕ) → not r ≡ true → out ≡ lesser (get_or own i 0) first → Takes before own i kind first left out
+    pub taking_refused : (out : ℕ) → not r ≡ true → out ≡ min (get_or own i 0) first → Takes before own i kind first left out
     taking_refused out n e = record { items = items; changed = w.changed; took = unfit e (λ ks b' l. left_refused (w.same ks b' l) (sym t ∙ not-true b y) (sym q ∙ not-true r n)) }
 
     pub taking_next : (after : ℕ) → not r ≡ false → after ≡ rest_first items → Taking before i kind (set left i after) after

@@ -1,8 +1,8 @@
 -- What is known of the rows' children, where the ends of the whole table nest: of each open row the items that are left for its children still to
 -- come; of each other row that was seen that its children fit, or that a row up to it is found whose do not. It stays known from step to step.
-use Prim.Native.Nat.{ℕ, zero, suc, ◌+◌, ◌≤◌, ◌<◌}
+use Prim.Native.Nat.{ℕ, min, zero, suc, ◌+◌, ◌≤◌, ◌<◌}
 use mathlib.Core.Path.{◌≡◌, refl, sym, ◌∙◌}
-use mathlib.Core.Bool.{Bool, true, false, cond}
+use mathlib.Core.Bool.{Bool, true, false}
 use mathlib.Core.List.{List, ◌∷◌}
 use mathlib.Core.Logic.{⊎_elim}
 use native.Mathlib.Omega.{arith}
@@ -19,7 +19,7 @@ use Rattle.kinds.specs.Kinds.{entry}
 use Rattle.kinds.specs.Steps.{items_number}
 use Rattle.kinds.proofs.Steps.{Left}
 use Rattle.checks.specs.Checks.{kind_alone, kinds_of, children_fit}
-use Rattle.checks.specs.Steps.{lesser, Settles, whole, missing, Took, taken, unfit, Closes, stays, closes}
+use Rattle.checks.specs.Steps.{Settles, whole, missing, Took, taken, unfit, Closes, stays, closes}
 
 -- the children of an open row against its items: a row up to it is found already; or its children from row p on fit the items left exactly
 -- where all of them fit its kind
@@ -60,21 +60,15 @@ record Noted (rows : List ℕ) (first r : ℕ) : Type 0 where
 noted_same : (rows : List ℕ) (first r : ℕ) → r ≡ first → Noted rows first r
 noted_same rows first r e = record { low = omega arith; refused = λ h. absurd (omega arith) }
 
-lesser_low : (a b : ℕ) → lesser a b ≤ a
-unfolding lesser
-lesser_low a b = go (ltb a b) refl
-  where
-    go : (x : Bool) → ltb a b ≡ x → cond x a b ≤ a
-    go true e = omega arith
-    go false e = ltb-false a b e
+least_low : (a b : ℕ) → min a b ≤ a
+least_low a b = omega arith
 
-noted_lesser : (rows : List ℕ) (first own r : ℕ) → r ≡ lesser own first → (own < first → children_fit rows own ≡ false) → Noted rows first r
-unfolding lesser
-noted_lesser rows first own r e t = go (ltb own first) refl
+noted_least : (rows : List ℕ) (first own r : ℕ) → r ≡ min own first → (own < first → children_fit rows own ≡ false) → Noted rows first r
+noted_least rows first own r e t = go (ltb own first) refl
   where
     go : (x : Bool) → ltb own first ≡ x → Noted rows first r
-    go true q = let z : r ≡ own = e ∙ rw q in let l : own < first = ltb-true own first q in record { low = omega arith; refused = λ h. rw z (t l) }
-    go false q = let z : r ≡ first = e ∙ rw q in noted_same rows first r z
+    go true q = let l : own < first = ltb-true own first q in let z : r ≡ own = omega arith in record { low = omega arith; refused = λ h. rw z (t l) }
+    go false q = let l : first ≤ own = ltb-false own first q in noted_same rows first r (omega arith)
 
 still_refused : {rows : List ℕ} {first r start : ℕ} → Noted rows first r → (first < start → children_fit rows first ≡ false) → r < start → children_fit rows r ≡ false
 still_refused n t h = ⊎_elim (λ e. rw e (t (omega arith))) (λ l. n.refused l) (eq-or-lt_of_le n.low)
@@ -113,10 +107,10 @@ record Verdict (rows : List ℕ) (first own r : ℕ) : Type 0 where
 
 verdict : (rows : List ℕ) (first own left end p r : ℕ) → end ≤ p → Fit rows first own left end p → Settles left own first r → Verdict rows first own r
 verdict rows first own left end p r h (found l) (whole e t) = record { noted = noted_same rows first r e; seen = λ at depth. later (omega arith) }
-verdict rows first own left end p r h (found l) (missing e t) = record { noted = noted_lesser rows first own r e (λ q. absurd (omega arith)); seen = λ at depth. later (omega (arith, lesser_low own first)) }
+verdict rows first own left end p r h (found l) (missing e t) = record { noted = noted_least rows first own r e (λ q. absurd (omega arith)); seen = λ at depth. later (omega (arith, least_low own first)) }
 verdict rows first own left end p r h (so_far l) (whole e t) = record { noted = noted_same rows first r e; seen = λ at depth. right (sym (t _ (rw (fold_none kind_alone rows p end h) at l))) }
 verdict rows first own left end p r h (so_far l) (missing e t) =
-    record { noted = noted_lesser rows first own r e (λ q. sym (t _ (rw (fold_none kind_alone rows p end h) at l))); seen = λ at depth. later (omega (arith, lesser_low own first)) }
+    record { noted = noted_least rows first own r e (λ q. sym (t _ (rw (fold_none kind_alone rows p end h) at l))); seen = λ at depth. later (omega (arith, least_low own first)) }
 
 -- the last open row ends, and is closed
 close_last : (rows : List ℕ) (start : ℕ) (ends left own : List ℕ) (d row p first r : ℕ)
@@ -167,10 +161,10 @@ fit_taken : (rows : List ℕ) (first own left end row items r : ℕ)
     → Took left (kind_at rows row) own first items r
     → FitTaken rows first own items end (end_at rows row) r
 fit_taken rows first own left end row items r g h (found l) (taken e t) = record { noted = noted_same rows first r e; fit = found (omega arith) }
-fit_taken rows first own left end row items r g h (found l) (unfit e t) = record { noted = noted_lesser rows first own r e (λ q. absurd (omega arith)); fit = found (omega (arith, lesser_low own first)) }
+fit_taken rows first own left end row items r g h (found l) (unfit e t) = record { noted = noted_least rows first own r e (λ q. absurd (omega arith)); fit = found (omega (arith, least_low own first)) }
 fit_taken rows first own left end row items r g h (so_far l) (taken e t) = record { noted = noted_same rows first r e; fit = so_far (t _ _ (rw (kinds_some g h) at l)) }
 fit_taken rows first own left end row items r g h (so_far l) (unfit e t) =
-    record { noted = noted_lesser rows first own r e (λ q. sym (t _ _ (rw (kinds_some g h) at l))); fit = found (omega (arith, lesser_low own first)) }
+    record { noted = noted_least rows first own r e (λ q. sym (t _ _ (rw (kinds_some g h) at l))); fit = found (omega (arith, least_low own first)) }
 
 -- the last open row takes it
 pub take_known : (rows : List ℕ) (count start : ℕ) (ends left own after : List ℕ) (n row first items r : ℕ)

@@ -1,5 +1,5 @@
 -- What the functions of the check ask of each other and tell each other on the way. Nothing here is document 01's.
-use Rattle.std.specs.Prelude.{ℕ, suc, ◌+◌, ◌-◌, ◌*◌, ◌≤◌, ◌<◌, ◌≡◌, Bool, true, false, cond, ◌&&◌, List, [], ◌∷◌, leb, ltb, length, get_or, set}
+use Rattle.std.specs.Prelude.{ℕ, min, suc, ◌+◌, ◌-◌, ◌*◌, ◌≤◌, ◌<◌, ◌≡◌, Bool, true, false, cond, ◌&&◌, List, [], ◌∷◌, leb, length, get_or, set}
 use Rattle.table.specs.Rows.{kind_at, side_at, end_at}
 use Rattle.kinds.specs.declared.Kind.{Kind}
 use Rattle.kinds.specs.Kinds.{S, entry, in_class, side_fits}
@@ -19,19 +19,15 @@ pub record Held (rows : List ℕ) (count : ℕ) : Type 0 where
   pub few : count ≤ 2000
   pub room : 5 * count ≤ length rows
 
--- the smaller of two numbers
-unfoldable pub lesser : ℕ → ℕ → ℕ
-lesser a b = cond (ltb a b) a b
-
 -- no child is left for these items of row `own`: none is missing, or the row is noted
 pub data Settles (left own first r : ℕ) : Type 0 where
   whole : r ≡ first → ((b : Bool) → Left left [] b → true ≡ b) → Settles left own first r
-  missing : r ≡ lesser own first → ((b : Bool) → Left left [] b → false ≡ b) → Settles left own first r
+  missing : r ≡ min own first → ((b : Bool) → Left left [] b → false ≡ b) → Settles left own first r
 
 -- a child of this kind is next for these items of row `own`: it is taken, and others are left; or the row is noted
 pub data Took (left kind own first after r : ℕ) : Type 0 where
   taken : r ≡ first → ((ks : List ℕ) (b : Bool) → Left left (kind ∷ ks) b → Left after ks b) → Took left kind own first after r
-  unfit : r ≡ lesser own first → ((ks : List ℕ) (b : Bool) → Left left (kind ∷ ks) b → false ≡ b) → Took left kind own first after r
+  unfit : r ≡ min own first → ((ks : List ℕ) (b : Bool) → Left left (kind ∷ ks) b → false ≡ b) → Took left kind own first after r
 
 -- the open row at i takes it, and only its items change
 pub record Takes (before own : List ℕ) (i kind first : ℕ) (after : List ℕ) (r : ℕ) : Type 0 where

@@ -10,7 +10,7 @@ ghost use Rattle.std.specs.Prelude.{◌≡◌, List, [], ◌<◌, ◌≤◌, ◌
 ghost use Rattle.kinds.specs.Kinds.{Item, fits, kinds as kind_list};
 ghost use Rattle.kinds.specs.Steps.{items_number, numbers};
 ghost use Rattle.checks.specs.Checks.{holds, fields_at, checked_rows};
-ghost use Rattle.checks.specs.Steps.{Held, lesser, Settles, Takes, Closes, PlacesRow, CanEnter, Enters, RowRead, RowTold, refused_of, root_found, Started, RootPlaced};
+ghost use Rattle.checks.specs.Steps.{Held, Settles, Takes, Closes, PlacesRow, CanEnter, Enters, RowRead, RowTold, refused_of, root_found, Started, RootPlaced};
 
 use kinds::{Items, Kind};
 use refusals::{Refusal, Refused};
@@ -28,15 +28,6 @@ fn held(rows: &[u32], count: usize) -> bool
     ensures { result ≡ holds rows.now count }
 {
     (1..=2000).contains(&count) && 5 * count <= rows.len()
-}
-
-fn smaller(a: usize, b: usize) -> usize
-    ensures { result ≡ lesser a b }
-{
-    if a < b {
-        return a;
-    }
-    b
 }
 
 // Whether each item left may stand any number of times, none included.
@@ -60,7 +51,7 @@ fn settle(left: Items, own: usize, first: usize) -> usize
     if all_repeat(left) {
         return first;
     }
-    smaller(own, first)
+    own.min(first)
 }
 
 // The open row at `i` takes a child of this kind: its items that are left for the next child, and the first row found.
@@ -71,7 +62,7 @@ fn take(left: &mut [Items; 100], own: &[usize; 100], i: usize, kind: usize, firs
     let mut items = left[i];
     while !kinds::takes_first(items, kind) {
         if !kinds::repeats_first(items) {
-            return smaller(own[i], first);
+            return own[i].min(first);
         }
         items = kinds::rest_first(items);
         left[i] = items;
@@ -277,7 +268,9 @@ fn check_from_root(
     let mut left = [0usize; 100];
     let mut own = [0usize; 100];
     let root = place(&mut ends, &mut left, &mut own, 0, 0, count, items, start);
-    check_rest(rows, count, names, root, &mut ends, &mut left, &mut own, entries)
+    check_rest(
+        rows, count, names, root, &mut ends, &mut left, &mut own, entries,
+    )
 }
 
 // The first row found before any is looked at: none, which is the count, or row 0 if its kind is no statement's.
@@ -309,5 +302,12 @@ pub fn check(rows: &[u32], count: usize, names: usize) -> Result<(), Refused>
     if right_end(rows, names, 0, entry, count, count) == 0 {
         return refuse(rows, count, names, 0, false);
     }
-    check_from_root(rows, count, names, entry.children, root_found(count, kind), &entries)
+    check_from_root(
+        rows,
+        count,
+        names,
+        entry.children,
+        root_found(count, kind),
+        &entries,
+    )
 }
