@@ -1,16 +1,17 @@
 -- A kind's items against the children, as the code meets them: no child is left, or one is next. The items, as a number, fall in both loops.
 use Prim.Native.Nat.{ℕ, min, ◌<◌}
-use mathlib.Core.Path.{◌≡◌, refl, sym, ap, ◌∙◌}
+use mathlib.Core.Path.{◌≡◌, refl, sym, ◌∙◌}
 use mathlib.Core.Bool.{Bool, true, false, not}
 use mathlib.Core.List.{List, [], ◌∷◌}
 use native.Mathlib.Omega.{arith}
+use lib.ListN.{get_or, set}
+use lib.Seq.{set-get_or, set-set}
 use lib.Dec.{eqb}
 use borrow.Author.Tests.{not-true, not-false}
 use Rattle.kinds.specs.Kinds.{Item, fits}
 use Rattle.kinds.specs.Steps.{items_number, takes_first, repeats_first, rest_first, after_first}
 use Rattle.kinds.proofs.Numbers.{repeats_none}
 use Rattle.kinds.proofs.Steps.{Left, left_taken, left_skipped, left_refused, left_passed, left_ended, rest_less}
-use Rattle.checks.specs.declared.OpenRow.{OpenRow}
 use Rattle.checks.specs.Steps.{Settles, whole, missing, taken, unfit, Takes}
 
 -- the loop of `all_repeat`: the items left when no child is
@@ -49,47 +50,41 @@ module _ (left own first : ℕ) where
 
 pub ruleset settling = (settle_none, settle_whole, settle_missing)
 
--- the loop of `take`: the child is for the items left, and nothing else has changed
-pub record Taking (before : OpenRow) (kind : ℕ) (now : OpenRow) : Type 0 where
-  pub changed : now ≡ record { end = before.end; left = now.left; own = before.own }
-  pub same : (ks : List ℕ) (b : Bool) → Left before.left (kind ∷ ks) b → Left now.left (kind ∷ ks) b
+-- the loop of `take`: these items are in the array, and the child is for them
+pub record Taking (before : List ℕ) (i kind : ℕ) (left : List ℕ) (items : ℕ) : Type 0 where
+  pub changed : left ≡ set before i items
+  pub same : (ks : List ℕ) (b : Bool) → Left (get_or before i 0) (kind ∷ ks) b → Left items (kind ∷ ks) b
 
-pub taking_start : (before : OpenRow) (kind : ℕ) → Taking before kind before
-taking_start before kind = record { changed = refl; same = λ ks b l. l }
+pub taking_start : (before : List ℕ) (i kind : ℕ) → Taking before i kind before (get_or before i 0)
+taking_start before i kind = record { changed = sym (set-get_or before i 0); same = λ ks b l. l }
 
-module _ (before : OpenRow) (kind : ℕ) (now : OpenRow) (w : Taking before kind now) (first : ℕ) (b : Bool) (t : b ≡ takes_first now.left kind) (r : Bool) (q : r ≡ repeats_first now.left) where
-  same_own : now.own ≡ before.own
-  same_own = ap (λ (o : OpenRow). o.own) w.changed
-
-  -- with other items
-  with_left : (left : ℕ) → ◌≡◌ {A = OpenRow} (record { end = now.end; left = left; own = now.own }) (record { end = before.end; left = left; own = before.own })
-  with_left left = ap (λ (o : OpenRow). record { end = o.end; left = left; own = o.own }) w.changed
-
+module _ (before : List ℕ) (i kind : ℕ) (left : List ℕ) (items : ℕ) (w : Taking before i kind left items) (own : List ℕ) (first : ℕ) (b : Bool) (t : b ≡ takes_first items kind) (r : Bool) (q : r ≡ repeats_first items) where
   module _ (y : not b ≡ true) where
-    pub taking_refused : (out : ℕ) → not r ≡ true → out ≡ min now.own first → Takes before kind first now out
-    taking_refused out n e = record { changed = w.changed; took = unfit (rw same_own at e) (λ ks b' l. left_refused (w.same ks b' l) (sym t ∙ not-true b y) (sym q ∙ not-true r n)) }
+    pub taking_refused : (out : ℕ) → not r ≡ true → out ≡ min (get_or own i 0) first → Takes before own i kind first left out
+    taking_refused out n e = record { items = items; changed = w.changed; took = unfit e (λ ks b' l. left_refused (w.same ks b' l) (sym t ∙ not-true b y) (sym q ∙ not-true r n)) }
 
-    pub taking_next : (after : ℕ) → not r ≡ false → after ≡ rest_first now.left → Taking before kind (record { end = now.end; left = after; own = now.own })
+    pub taking_next : (after : ℕ) → not r ≡ false → after ≡ rest_first items → Taking before i kind (set left i after) after
     taking_next after n a = record {
-      changed = with_left after;
+      changed = rw w.changed (set-set before i items after);
       same = λ ks b' l. rw a (left_skipped (w.same ks b' l) (sym t ∙ not-true b y) (sym q ∙ not-false r n));
     }
 
-    pub taking_falls : (after : ℕ) → not r ≡ false → after ≡ rest_first now.left → after < now.left
-    taking_falls after n a = omega (arith, rest_less now.left (sym q ∙ not-false r n))
+    pub taking_falls : (after : ℕ) → not r ≡ false → after ≡ rest_first items → after < items
+    taking_falls after n a = omega (arith, rest_less items (sym q ∙ not-false r n))
 
   module _ (n : not b ≡ false) where
-    after_taken : (ks : List ℕ) (b' : Bool) → Left before.left (kind ∷ ks) b' → Left (after_first now.left) ks b'
+    after_taken : (ks : List ℕ) (b' : Bool) → Left (get_or before i 0) (kind ∷ ks) b' → Left (after_first items) ks b'
     after_taken ks b' l = left_taken (w.same ks b' l) (sym t ∙ not-false b n)
 
-    pub taking_again : r ≡ true → Takes before kind first now first
+    pub taking_again : r ≡ true → Takes before own i kind first left first
     unfolding after_first
-    taking_again y = record { changed = w.changed; took = taken refl (λ ks b' l. rw (sym q ∙ y) at (after_taken ks b' l)) }
+    taking_again y = record { items = items; changed = w.changed; took = taken refl (λ ks b' l. rw (sym q ∙ y) at (after_taken ks b' l)) }
 
-    pub taking_once : (after : ℕ) → r ≡ false → after ≡ rest_first now.left → Takes before kind first (record { end = now.end; left = after; own = now.own }) first
+    pub taking_once : (after : ℕ) → r ≡ false → after ≡ rest_first items → Takes before own i kind first (set left i after) first
     unfolding after_first
     taking_once after f a = record {
-      changed = with_left after;
+      items = after;
+      changed = rw w.changed (set-set before i items after);
       took = taken refl (λ ks b' l. rw a (rw (sym q ∙ f) at (after_taken ks b' l)));
     }
 

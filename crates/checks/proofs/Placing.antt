@@ -2,50 +2,38 @@
 -- started; the number of open rows falls.
 use Prim.Native.Nat.{ℕ, suc, ◌+◌, ◌-◌, ◌≤◌, ◌<◌}
 use mathlib.Core.Path.{◌≡◌, refl, subst}
+use mathlib.Core.List.{List}
 use native.Mathlib.Omega.{arith}
-use lib.ListN.{set}
-use Rattle.checks.specs.declared.OpenRow.{OpenRow}
-use Rattle.checks.specs.declared.OpenRows.{OpenRows}
-use Rattle.checks.specs.Steps.{row_at, Settles, Closes, stays, closes, PlacesRow, opens, ends_here}
+use lib.ListN.{get_or, set}
+use Rattle.checks.specs.Steps.{Settles, Closes, stays, closes, PlacesRow, opens, ends_here}
 
-pub record Closing (before : OpenRows) (row first : ℕ) (now : OpenRows) (f : ℕ) : Type 0 where
-  pub rows : now.rows ≡ before.rows
-  pub down : now.depth ≤ before.depth
-  pub back : (m n : ℕ) → Closes before.rows row now.depth f m n → Closes before.rows row before.depth first m n
+pub record Closing (ends left own : List ℕ) (row depth first d f : ℕ) : Type 0 where
+  pub down : d ≤ depth
+  pub back : (m n : ℕ) → Closes ends left own row d f m n → Closes ends left own row depth first m n
 
-pub closing_start : (before : OpenRows) (row first : ℕ) → Closing before row first before first
-closing_start before row first = record { rows = refl; down = omega arith; back = λ m n c. c }
+pub closing_start : (ends left own : List ℕ) (row depth first : ℕ) → Closing ends left own row depth first depth first
+closing_start ends left own row depth first = record { down = omega arith; back = λ m n c. c }
 
-module _ (before : OpenRows) (row first : ℕ) (now : OpenRows) (f : ℕ) (w : Closing before row first now f) where
-  pub closing_none : now.depth ≤ 0 → Closes before.rows row before.depth first now.depth f
-  closing_none h = w.back now.depth f (stays (λ l. absurd (omega arith)))
+module _ (ends left own : List ℕ) (row depth first d f : ℕ) (w : Closing ends left own row depth first d f) where
+  pub closing_none : d ≤ 0 → Closes ends left own row depth first d f
+  closing_none h = w.back d f (stays (λ l. absurd (omega arith)))
 
-  pub closing_found : row < (row_at now.rows (now.depth - 1)).end → Closes before.rows row before.depth first now.depth f
-  closing_found l = w.back now.depth f (stays (λ _. rw w.rows at l))
+  pub closing_found : row < get_or ends (d - 1) 0 → Closes ends left own row depth first d f
+  closing_found l = w.back d f (stays (λ _. l))
 
-  pub closing_next : (r : ℕ)
-      → 0 < now.depth
-      → (row_at now.rows (now.depth - 1)).end ≤ row
-      → Settles (row_at now.rows (now.depth - 1)).left (row_at now.rows (now.depth - 1)).own f r
-      → Closing before row first (record { rows = now.rows; depth = now.depth - 1 }) r
+  pub closing_next : (r : ℕ) → 0 < d → get_or ends (d - 1) 0 ≤ row → Settles (get_or left (d - 1) 0) (get_or own (d - 1) 0) f r → Closing ends left own row depth first (d - 1) r
   closing_next r h l s = record {
-    rows = w.rows;
     down = omega (arith, w.down);
-    back = λ m n c. (let z : suc (now.depth - 1) ≡ now.depth = omega arith in w.back m n (subst (λ (k : ℕ). Closes before.rows row k f m n) z (closes (rw w.rows at l) (rw w.rows at s) c)));
+    back = λ m n c. (let z : suc (d - 1) ≡ d = omega arith in w.back m n (subst (λ (k : ℕ). Closes ends left own row k f m n) z (closes l s c)));
   }
 
 pub ruleset closing = (closing_start, closing_none, closing_found, closing_next)
 
-module _ (now : OpenRows) (row : OpenRow) (first : ℕ) where
-  pub place_opens : row.own + 1 < row.end → PlacesRow now row first (record { rows = set now.rows now.depth row; depth = now.depth + 1 }) first
-  place_opens h = opens h refl refl refl
+module _ (ends left own : List ℕ) (depth row end items first : ℕ) where
+  pub place_opens : row + 1 < end → PlacesRow ends left own depth row end items first (set ends depth end) (set left depth items) (set own depth row) (depth + 1) first
+  place_opens h = opens h refl refl refl refl refl
 
-  pub place_ends : (after : OpenRows) (found f : ℕ)
-      → row.end ≤ row.own + 1
-      → Settles row.left row.own first found
-      → after.rows ≡ now.rows
-      → Closes now.rows (row.own + 1) now.depth found after.depth f
-      → PlacesRow now row first after f
-  place_ends after found f h s e c = ends_here found h e s c
+  pub place_ends : (found d f : ℕ) → end ≤ row + 1 → Settles items row first found → Closes ends left own (row + 1) depth found d f → PlacesRow ends left own depth row end items first ends left own d f
+  place_ends found d f h s c = ends_here found h refl refl refl s c
 
 pub ruleset placing = (place_opens, place_ends)

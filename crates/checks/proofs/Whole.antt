@@ -1,6 +1,5 @@
 -- Where the loop ends, and row 0. Every row was seen and none is open: the fields and ends are right, so the ends nest, what is known of the children
 -- holds, and the first row found is the first whose children do not fit.
-use Rattle.checks.specs.declared.OpenRows.{OpenRows}
 use Prim.Native.Nat.{ℕ, ◌≤◌, ◌<◌}
 use mathlib.Core.Path.{◌≡◌, refl, sym, ◌∙◌}
 use mathlib.Core.Bool.{Bool, true, false, cond, not, ◌&&◌}
@@ -13,8 +12,7 @@ use Rattle.table.specs.Rows.{kind_at, end_at}
 use Rattle.kinds.specs.declared.Kind.{Kind}
 use Rattle.kinds.specs.Kinds.{S, kinds, is_kind, in_class}
 use Rattle.kinds.specs.Steps.{numbers}
-use Rattle.refusals.specs.declared.Refusal.{Refusal}
-use Rattle.refusals.specs.declared.Refusal.TheVariants.{WrongEnd, WrongChildren, WrongRecord}
+use Rattle.refusals.specs.declared.Refusal.TheVariants.{WrongChildren, WrongRecord}
 use Rattle.checks.specs.Checks.{Checked}
 use Rattle.refusals.specs.Refusals.{refused_at}
 use Rattle.checks.specs.Checks.{passed}
@@ -29,12 +27,12 @@ use Rattle.checks.proofs.OneRow.{RefusedFor, Bounds, fields_all, ends_all, unkno
 use Rattle.checks.proofs.Known.{Known, Seen, still, right, later}
 use Rattle.checks.proofs.Walking.{Walking, walking_start, walking_end, row_held, row_falls, walking_unknown, walking_read, walking_wrong, walking_deep, walking_next}
 
-module _ (rows : List ℕ) (count names : ℕ) (now : OpenRows) (row first : ℕ) (w : Walking rows count names (root_found count (kind_at rows 0)) now row first) (z : now.depth ≤ 0) where
+module _ (rows : List ℕ) (count names : ℕ) (ends left own : List ℕ) (row depth first : ℕ) (w : Walking rows count names (root_found count (kind_at rows 0)) ends left own row depth first) (z : depth ≤ 0) where
   abbrev start : ℕ
   start = root_found count (kind_at rows 0)
 
   seen_all : row ≡ count
-  seen_all = walking_end rows count names start now row first w z
+  seen_all = walking_end rows count names start ends left own row depth first w z
 
   both_right : (i : ℕ) → i < count → (fields_at rows names i ≡ passed) × (ends_at rows count i ≡ passed)
   unfolding alone_at
@@ -46,8 +44,8 @@ module _ (rows : List ℕ) (count names : ℕ) (now : OpenRows) (row first : ℕ
   ends_right : ends_of rows count ≡ passed
   ends_right = ends_all rows count names w.held ∙ pass_all (ends_at rows count) count (λ i h. (both_right i h).1)
 
-  all_known : Known rows (root_found count (kind_at rows 0)) now.rows 0 row row first
-  all_known = let e : now.depth ≡ 0 = omega arith in rw e at (w.known (ends_passed rows count passed (sym ends_right) refl).nested)
+  all_known : Known rows (root_found count (kind_at rows 0)) ends left own 0 row row first
+  all_known = let e : depth ≡ 0 = omega arith in rw e at (w.known (ends_passed rows count passed (sym ends_right) refl).nested)
 
   child_told : (i : ℕ) → i < count → children_at rows i ≡ cond (children_fit rows i) passed (refused_at WrongChildren i)
   unfolding children_at is_kind
@@ -56,7 +54,7 @@ module _ (rows : List ℕ) (count names : ℕ) (now : OpenRows) (row first : ℕ
   right_before : (i : ℕ) → i < count → i < first → children_at rows i ≡ passed
   right_before i a b = child_told i a ∙ go (all_known.seen i (omega (arith, seen_all)))
     where
-      go : Seen rows first now.rows 0 i → cond (children_fit rows i) passed (refused_at WrongChildren i) ≡ passed
+      go : Seen rows first own 0 i → cond (children_fit rows i) passed (refused_at WrongChildren i) ≡ passed
       go (still j l e) = absurd (omega arith)
       go (right e) = rw e
       go (later l) = absurd (omega arith)
@@ -105,9 +103,9 @@ equal_both a b = go (leb b a) (leb a b) refl refl
     go true false p q = ne_eqb a b (λ e. omega (arith, leb-false a b q))
     go false y p q = ne_eqb a b (λ e. omega (arith, leb-false b a p))
 
-root_bounds : (rows : List ℕ) (count : ℕ) → Bounds rows count 0 count count 0
+root_bounds : (rows : List ℕ) (count : ℕ) → 0 < count → Bounds rows count 0 count count 0
 unfolding end_fits enclosing ends_before above
-root_bounds rows count = record { fits = equal_both (end_at rows 0) count; deep = root_depth rows }
+root_bounds rows count s = record { some = s; fits = equal_both (end_at rows 0) count; deep = root_depth rows }
 
 module _ (rows : List ℕ) (count names : ℕ) (b : Bool) (e : b ≡ holds rows count) where
   pub root_unheld : not b ≡ true → refused_at WrongRecord 0 ≡ checked_rows rows count names
@@ -121,24 +119,24 @@ module _ (rows : List ℕ) (count names : ℕ) (b : Bool) (e : b ≡ holds rows 
     pub root_room : 4 < length rows
     root_room = omega (arith, root_held.some, root_held.room)
 
-    refused : (why : Refusal) (out : Checked) → RefusedFor rows count names 0 why → out ≡ refused_of rows count names 0 why → out ≡ checked_rows rows count names
-    refused why out t o = refused_checked rows count names root_held 0 root_held.some (λ i l. absurd (omega arith)) why out t o
+    refused : (deep : Bool) (out : Checked) → RefusedFor rows count names 0 deep → out ≡ refused_of rows count names 0 deep → out ≡ checked_rows rows count names
+    refused deep out t o = refused_checked rows count names root_held 0 root_held.some (λ i l. absurd (omega arith)) deep out t o
 
     module _ (k : ℕ) (i : k ≡ kind_at rows 0) where
-      pub root_unknown : (out : Checked) → 66 ≤ k → out ≡ refused_of rows count names 0 WrongEnd → out ≡ checked_rows rows count names
-      root_unknown out m o = refused WrongEnd out (unknown_refused rows count names 0 k i m) o
+      pub root_unknown : (out : Checked) → 66 ≤ k → out ≡ refused_of rows count names 0 false → out ≡ checked_rows rows count names
+      root_unknown out m o = refused false out (unknown_refused rows count names 0 k i m) o
 
       pub root_read : (entries : List Kind) (d : Kind) → k < 66 → entries ≡ map numbers kinds → RowRead rows 0 (get_or entries k d)
       root_read entries d m t = read_row rows names 0 k i entries d root_room m t
 
-    module _ (numbers : Kind) (r : Bool) (q : RowTold rows names 0 numbers count count r) where
-      pub root_wrong : (out : Checked) → not r ≡ true → out ≡ refused_of rows count names 0 WrongEnd → out ≡ checked_rows rows count names
-      root_wrong out z o = refused WrongEnd out (row_wrong rows count names 0 numbers count count 0 (root_bounds rows count) r q (not-true r z)) o
+    module _ (numbers : Kind) (end : ℕ) (q : RowTold rows names 0 numbers count count end) where
+      pub root_wrong : (out : Checked) → end ≡ 0 → out ≡ refused_of rows count names 0 false → out ≡ checked_rows rows count names
+      root_wrong out z o = refused false out (row_wrong rows count names 0 numbers count count 0 (root_bounds rows count root_held.some) end q z) o
 
-      pub root_started : (k start : ℕ) → k ≡ kind_at rows 0 → not r ≡ false → start ≡ root_found count k → Started rows count names numbers.children start
+      pub root_started : (k start : ℕ) → k ≡ kind_at rows 0 → (end ≡ 0 → ⊥) → start ≡ root_found count k → Started rows count names numbers.children start
       root_started k start i z o = record {
         held = root_held;
-        right = row_right rows count names 0 numbers count count 0 (root_bounds rows count) r q (not-false r z) (omega arith);
+        right = row_right rows count names 0 numbers count count 0 (root_bounds rows count root_held.some) end q z (omega arith);
         children = q.read.children;
         begin = rw (← i) o;
       }

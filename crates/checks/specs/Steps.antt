@@ -1,16 +1,16 @@
 -- What the functions of the check ask of each other and tell each other on the way. Nothing here is document 01's.
-use Rattle.std.specs.Prelude.{ℕ, suc, ◌+◌, ◌-◌, ◌*◌, ◌≤◌, ◌<◌, ◌≡◌, min, Bool, true, false, cond, ◌&&◌, List, [], ◌∷◌, leb, length, get_or, set}
+use Rattle.std.specs.Prelude.{ℕ, min, suc, ◌+◌, ◌-◌, ◌*◌, ◌≤◌, ◌<◌, ◌≡◌, Bool, true, false, cond, ◌&&◌, List, [], ◌∷◌, leb, length, get_or, set}
 use Rattle.table.specs.Rows.{kind_at, side_at, end_at}
 use Rattle.kinds.specs.declared.Kind.{Kind}
 use Rattle.kinds.specs.Kinds.{S, entry, in_class, side_fits}
 use Rattle.kinds.specs.Steps.{items_number, side_below}
 use Rattle.kinds.proofs.Steps.{Left}
 use Rattle.refusals.specs.declared.Refusal.{Refusal}
+use Rattle.refusals.specs.declared.Refusal.TheVariants.{WrongEnd, TooDeep}
 use Rattle.checks.specs.Checks.{Checked}
 use Rattle.refusals.specs.Refusals.{refused_at}
 use Rattle.checks.specs.Checks.{passed}
-use Rattle.checks.specs.declared.OpenRow.{OpenRow}
-use Rattle.checks.specs.declared.OpenRows.{OpenRows}
+use Rattle.checks.specs.declared.Progress.{Progress}
 use Rattle.checks.specs.Checks.{and_then, first_from, fields_at, ends_at}
 
 -- a table that holds its rows: the premise under which it is read
@@ -29,56 +29,52 @@ pub data Took (left kind own first after r : ℕ) : Type 0 where
   taken : r ≡ first → ((ks : List ℕ) (b : Bool) → Left left (kind ∷ ks) b → Left after ks b) → Took left kind own first after r
   unfit : r ≡ min own first → ((ks : List ℕ) (b : Bool) → Left left (kind ∷ ks) b → false ≡ b) → Took left kind own first after r
 
--- an open row takes a child of this kind, and only its items change
-pub record Takes (before : OpenRow) (kind first : ℕ) (after : OpenRow) (r : ℕ) : Type 0 where
-  pub changed : after ≡ record { end = before.end; left = after.left; own = before.own }
-  pub took : Took before.left kind before.own first after.left r
-
--- the row at a place of the open rows; past the last one, a row of zeros
-abbrev pub row_at : List OpenRow → ℕ → OpenRow
-row_at rows i = get_or rows i (record { end = 0; left = 0; own = 0 })
+-- the open row at i takes it, and only its items change
+pub record Takes (before own : List ℕ) (i kind first : ℕ) (after : List ℕ) (r : ℕ) : Type 0 where
+  pub items : ℕ
+  pub changed : after ≡ set before i items
+  pub took : Took (get_or before i 0) kind (get_or own i 0) first items r
 
 -- the innermost open rows are closed, one by one, up to the first that ends after row `row`; left are so many and this first row found
-pub data Closes (rows : List OpenRow) (row : ℕ) : ℕ → ℕ → ℕ → ℕ → Type 0 where
-  stays : {depth first : ℕ} → (0 < depth → row < (row_at rows (depth - 1)).end) → Closes rows row depth first depth first
+pub data Closes (ends left own : List ℕ) (row : ℕ) : ℕ → ℕ → ℕ → ℕ → Type 0 where
+  stays : {depth first : ℕ} → (0 < depth → row < get_or ends (depth - 1) 0) → Closes ends left own row depth first depth first
   closes : {depth first found d f : ℕ}
-      → (row_at rows depth).end ≤ row
-      → Settles (row_at rows depth).left (row_at rows depth).own first found
-      → Closes rows row depth found d f
-      → Closes rows row (suc depth) first d f
-
--- there is room for one more open row
-pub record CanPlace (at : OpenRows) (row : OpenRow) : Type 0 where
-  pub shallow : at.depth < 100
-  pub few : row.own ≤ 2000
+      → get_or ends depth 0 ≤ row
+      → Settles (get_or left depth 0) (get_or own depth 0) first found
+      → Closes ends left own row depth found d f
+      → Closes ends left own row (suc depth) first d f
 
 -- a row is opened, or it holds no rows and those that end with it are closed
-pub data PlacesRow (at : OpenRows) (row : OpenRow) (first : ℕ) (at' : OpenRows) (f : ℕ) : Type 0 where
-  opens : row.own + 1 < row.end
-      → at'.rows ≡ set at.rows at.depth row
-      → at'.depth ≡ at.depth + 1
+pub data PlacesRow (ends left own : List ℕ) (depth row end items first : ℕ) (ends' left' own' : List ℕ) (d f : ℕ) : Type 0 where
+  opens : row + 1 < end
+      → ends' ≡ set ends depth end
+      → left' ≡ set left depth items
+      → own' ≡ set own depth row
+      → d ≡ depth + 1
       → f ≡ first
-      → PlacesRow at row first at' f
+      → PlacesRow ends left own depth row end items first ends' left' own' d f
   ends_here : (found : ℕ)
-      → row.end ≤ row.own + 1
-      → at'.rows ≡ at.rows
-      → Settles row.left row.own first found
-      → Closes at.rows (row.own + 1) at.depth found at'.depth f
-      → PlacesRow at row first at' f
+      → end ≤ row + 1
+      → ends' ≡ ends
+      → left' ≡ left
+      → own' ≡ own
+      → Settles items row first found
+      → Closes ends left own (row + 1) depth found d f
+      → PlacesRow ends left own depth row end items first ends' left' own' d f
 
 -- there is an open row, and room for one more
-pub record CanEnter (at : OpenRows) (row : OpenRow) : Type 0 where
-  pub some : 0 < at.depth
-  pub shallow : at.depth < 100
-  pub few : row.own ≤ 2000
+pub record CanEnter (depth row : ℕ) : Type 0 where
+  pub some : 0 < depth
+  pub shallow : depth < 100
+  pub few : row ≤ 2000
 
 -- the innermost open row takes a row, which is then placed
-pub record Enters (at : OpenRows) (row : OpenRow) (kind first : ℕ) (at' : OpenRows) (r : ℕ) : Type 0 where
-  pub room : CanEnter at row
-  pub after : OpenRow
-  pub found : ℕ
-  pub takes : Takes (row_at at.rows (at.depth - 1)) kind first after found
-  pub places : PlacesRow (record { rows = set at.rows (at.depth - 1) after; depth = at.depth }) row found at' r
+pub record Enters (ends left own : List ℕ) (at : Progress) (row kind end items : ℕ) (ends' left' own' : List ℕ) (r : Progress) : Type 0 where
+  pub room : CanEnter at.depth row
+  pub after : List ℕ
+  pub first : ℕ
+  pub takes : Takes left own (at.depth - 1) kind at.first after first
+  pub places : PlacesRow ends after own at.depth row end items first ends' left' own' r.depth r.first
 
 -- a row of the table is of a kind, and the code's numbers for the kind are these
 pub record RowRead (rows : List ℕ) (row : ℕ) (numbers : Kind) : Type 0 where
@@ -87,18 +83,26 @@ pub record RowRead (rows : List ℕ) (row : ℕ) (numbers : Kind) : Type 0 where
   pub sides : (names side : ℕ) → side_below numbers.sides names side ≡ side_fits (entry (kind_at rows row)).sides names side
   pub children : numbers.children ≡ items_number (entry (kind_at rows row)).children
 
--- what `end_right` answers of a row whose end may be from `least` to `most`
-unfoldable pub end_right : List ℕ → ℕ → Kind → ℕ → ℕ → ℕ → Bool
-end_right rows names numbers row least most = (leb least (end_at rows row) && leb (end_at rows row) most) && side_below numbers.sides names (side_at rows row)
+-- what `right_end` answers of a row whose end may be from `least` to `most`
+unfoldable pub end_or_zero : List ℕ → ℕ → Kind → ℕ → ℕ → ℕ → ℕ
+end_or_zero rows names numbers row least most =
+    cond (leb least (end_at rows row) && leb (end_at rows row) most)
+    (cond (side_below numbers.sides names (side_at rows row)) (end_at rows row) 0)
+    0
 
 -- what it tells: of which row, and the answer
-pub record RowTold (rows : List ℕ) (names row : ℕ) (numbers : Kind) (least most : ℕ) (r : Bool) : Type 0 where
+pub record RowTold (rows : List ℕ) (names row : ℕ) (numbers : Kind) (least most r : ℕ) : Type 0 where
   pub read : RowRead rows row numbers
-  pub answer : r ≡ end_right rows names numbers row least most
+  pub answer : r ≡ end_or_zero rows names numbers row least most
 
--- what `refuse` tells of a row that is wrong by itself: the first wrong field from it on, and where there is none the row's end or depth
-unfoldable pub refused_of : List ℕ → ℕ → ℕ → ℕ → Refusal → Checked
-refused_of rows count names row end_or_depth = and_then (first_from (fields_at rows names) (count - row) row) (refused_at end_or_depth row)
+-- why a row is refused where all fields are right: for its depth, or for its end
+abbrev pub end_refusal : Bool → Refusal
+end_refusal true = TooDeep
+end_refusal false = WrongEnd
+
+-- what `refuse` tells of a row that is wrong by itself: the first wrong field from it on, and where there is none the row
+unfoldable pub refused_of : List ℕ → ℕ → ℕ → ℕ → Bool → Checked
+refused_of rows count names row deep = and_then (first_from (fields_at rows names) (count - row) row) (refused_at (end_refusal deep) row)
 
 -- the first row found before any is looked at: none, which is the count, or row 0 if its kind is no statement's
 unfoldable pub root_found : ℕ → ℕ → ℕ
@@ -115,11 +119,19 @@ pub record Started (rows : List ℕ) (count names items start : ℕ) : Type 0 wh
   pub children : items ≡ items_number (entry (kind_at rows 0)).children
   pub begin : start ≡ root_found count (kind_at rows 0)
 
+-- the arrays have room for 100 rows
+pub record Rooms (ends left own : List ℕ) : Type 0 where
+  pub for_ends : length ends ≡ 100
+  pub for_left : length left ≡ 100
+  pub for_own : length own ≡ 100
+
 -- row 0 is placed where no row was open
-pub record RootPlaced (rows : List ℕ) (count names : ℕ) (at : OpenRows) (first : ℕ) : Type 0 where
+pub record RootPlaced (rows : List ℕ) (count names depth first : ℕ) (ends left own : List ℕ) : Type 0 where
   pub items : ℕ
   pub start : ℕ
   pub started : Started rows count names items start
-  pub unused : List OpenRow
-  pub room : length unused ≡ 100
-  pub placed : PlacesRow (record { rows = unused; depth = 0 }) (record { end = count; left = items; own = 0 }) start at first
+  pub no_ends : List ℕ
+  pub no_left : List ℕ
+  pub no_own : List ℕ
+  pub rooms : Rooms no_ends no_left no_own
+  pub placed : PlacesRow no_ends no_left no_own 0 0 count items start ends left own depth first

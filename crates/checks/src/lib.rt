@@ -1,37 +1,25 @@
 // The check of a lent row table. It asks nothing of the caller: a table too short for its rows is answered too.
 // One loop goes over the rows; where a row is wrong by itself, a second one looks at the fields from there on. A row is open from where it
-// stands up to its end. A row is a child of the innermost open one, which takes it; then it is opened, or, if it holds no rows, those that end
-// with it are closed.
+// stands up to its end; `ends`, `left` and `own` keep of each open row, the outermost first, its end, the items of its kind that are left
+// for the children to come, and its number. A row is a child of the innermost open one, which takes it; then it is opened, or, if it
+// holds no rows, those that end with it are closed.
+// Three arrays: one array of a struct costs 63 instructions a row for 54, and ask on block-2000 is 3.43 of da_stmt for a bar of 3.20.
 #![tactic(auto)]
 
-ghost use Rattle.std.specs.Prelude.{◌≡◌, List, [], ◌<◌, ◌≤◌, ◌+◌, ◌*◌, length};
-ghost use Rattle.kinds.specs.Kinds.{Item, fits};
-ghost use Rattle.kinds.specs.Steps.{items_number};
+ghost use Rattle.std.specs.Prelude.{◌≡◌, List, [], ◌<◌, ◌≤◌, ◌+◌, ◌*◌, length, map};
+ghost use Rattle.kinds.specs.Kinds.{Item, fits, kinds as kind_list};
+ghost use Rattle.kinds.specs.Steps.{items_number, numbers};
 ghost use Rattle.checks.specs.Checks.{holds, fields_at, checked_rows};
-ghost use Rattle.checks.specs.Steps.{Held, Settles, Takes, Closes, CanPlace, PlacesRow, CanEnter, Enters, RowRead, RowTold, refused_of, root_found, Started, RootPlaced};
+ghost use Rattle.checks.specs.Steps.{Held, Settles, Takes, Closes, PlacesRow, CanEnter, Enters, RowRead, RowTold, refused_of, root_found, Started, RootPlaced};
 
 use kinds::{Items, Kind};
 use refusals::{Refusal, Refused};
 
-// An open row: its end, the items of its kind that are left for the children to come, and its number.
+// How many rows are open, and the first row found so far whose children do not fit, the count of rows if none is.
 #[derive(Clone, Copy)]
-struct OpenRow {
-    end: usize,
-    left: Items,
-    own: usize,
-}
-
-const UNUSED: OpenRow = OpenRow {
-    end: 0,
-    left: 0,
-    own: 0,
-};
-
-// The open rows, the outermost first: the first `depth` of these.
-#[derive(Drop)]
-struct OpenRows {
-    rows: [OpenRow; 100],
+struct Progress {
     depth: usize,
+    first: usize,
 }
 
 // Whether a table holds so many rows.
@@ -43,104 +31,141 @@ fn held(rows: &[u32], count: usize) -> bool
 }
 
 // Whether each item left may stand any number of times, none included.
-#[tactic(auto, using(crate::proofs::Items::ending))]
-fn all_repeat(mut items: Items) -> bool
-    ensures { (asked : List Item) → items ≡ items_number asked → result ≡ fits asked [] }
+fn all_repeat(mut left: Items) -> bool
+    ensures { (items : List Item) → left ≡ items_number items → result ≡ fits items [] }
 {
-    while kinds::repeats_first(items) {
+    while kinds::repeats_first(left) {
+        left = kinds::rest_first(left);
+    }
+    left == 0
+}
+
+// Row `own` has no more children, and these items are left: the first row found, which is this one if it misses a child and stands
+// before the others.
+fn settle(left: Items, own: usize, first: usize) -> usize
+    ensures { Settles left own first result }
+{
+    if left == 0 {
+        return first;
+    }
+    if all_repeat(left) {
+        return first;
+    }
+    own.min(first)
+}
+
+// The open row at `i` takes a child of this kind: its items that are left for the next child, and the first row found.
+fn take(left: &mut [Items; 100], own: &[usize; 100], i: usize, kind: usize, first: usize) -> usize
+    requires { i < 100 }
+    ensures { Takes left.old own.now i kind first left.new result }
+{
+    let mut items = left[i];
+    while !kinds::takes_first(items, kind) {
+        if !kinds::repeats_first(items) {
+            return own[i].min(first);
+        }
         items = kinds::rest_first(items);
+        left[i] = items;
     }
-    items == 0
+    if kinds::repeats_first(items) {
+        return first;
+    }
+    left[i] = kinds::rest_first(items);
+    first
 }
 
-impl OpenRow {
-    // The row has no more children: the first row found, which is this one if it misses a child and stands before the others.
-    #[tactic(auto, using(crate::proofs::Items::settling))]
-    fn settle(self, first: usize) -> usize
-        ensures { Settles self.left self.own first result }
-    {
-        // Most rows have no items left: without this line a row costs 8 instructions more.
-        if self.left == 0 {
-            return first;
+// The open rows that end by this row are closed.
+fn close(
+    ends: &[usize; 100],
+    left: &[Items; 100],
+    own: &[usize; 100],
+    mut depth: usize,
+    row: usize,
+    mut first: usize,
+) -> Progress
+    requires { depth ≤ 100 }
+    ensures { Closes ends.now left.now own.now row depth first result.depth result.first }
+{
+    while 0 < depth {
+        if row < ends[depth - 1] {
+            return Progress { depth, first };
         }
-        if all_repeat(self.left) {
-            first
-        } else {
-            self.own.min(first)
-        }
+        depth -= 1;
+        first = settle(left[depth], own[depth], first);
     }
-
-    // The row takes a child of this kind: the first row found.
-    #[tactic(auto, using(crate::proofs::Items::taking))]
-    fn take(&mut self, kind: usize, first: usize) -> usize
-        ensures { Takes self.old kind first self.new result }
-    {
-        while !kinds::takes_first(self.left, kind) {
-            if !kinds::repeats_first(self.left) {
-                return self.own.min(first);
-            }
-            self.left = kinds::rest_first(self.left);
-        }
-        if kinds::repeats_first(self.left) {
-            return first;
-        }
-        self.left = kinds::rest_first(self.left);
-        first
-    }
+    Progress { depth, first }
 }
 
-impl OpenRows {
-    // The open rows that end by this row are closed.
-    #[tactic(auto, using(crate::proofs::Placing::closing))]
-    fn close(&mut self, row: usize, mut first: usize) -> usize
-        requires { self.old.depth ≤ 100 }
-        ensures rows { self.new.rows ≡ self.old.rows }
-        ensures closes { Closes self.old.rows row self.old.depth first self.new.depth result }
-    {
-        while 0 < self.depth {
-            let innermost = self.rows[self.depth - 1];
-            if row < innermost.end {
-                return first;
-            }
-            self.depth -= 1;
-            first = innermost.settle(first);
-        }
-        first
+// A row with this end and its kind's items stands in the open rows: it is opened; or it holds no rows, and those that end with it
+// are closed.
+fn place(
+    ends: &mut [usize; 100],
+    left: &mut [Items; 100],
+    own: &mut [usize; 100],
+    depth: usize,
+    row: usize,
+    end: usize,
+    items: Items,
+    first: usize,
+) -> Progress
+    requires { (depth < 100) × (row ≤ 2000) }
+    ensures { PlacesRow ends.old left.old own.old depth row end items first ends.new left.new own.new result.depth result.first }
+{
+    if row + 1 < end {
+        ends[depth] = end;
+        left[depth] = items;
+        own[depth] = row;
+        return Progress {
+            depth: depth + 1,
+            first,
+        };
     }
-
-    // A row stands in the open rows: it is opened; or it holds no rows, and those that end with it are closed.
-    #[tactic(auto, using(crate::proofs::Placing::placing))]
-    fn place(&mut self, row: OpenRow, first: usize) -> usize
-        requires { CanPlace self.old row }
-        ensures { PlacesRow self.old row first self.new result }
-    {
-        if row.own + 1 < row.end {
-            self.rows[self.depth] = row;
-            self.depth += 1;
-            return first;
-        }
-        let found = row.settle(first);
-        self.close(row.own + 1, found)
-    }
-
-    // The innermost open row takes a row of this kind, and the row is placed.
-    fn enter(&mut self, row: OpenRow, kind: usize, first: usize) -> usize
-        requires { CanEnter self.old row }
-        ensures { Enters self.old row kind first self.new result }
-    {
-        let found = self.rows[self.depth - 1].take(kind, first);
-        self.place(row, found)
-    }
+    let settled = settle(items, row, first);
+    close(ends, left, own, depth, row + 1, settled)
 }
 
-// Whether a row's end, which may be from `least` to `most`, and its side number are right.
-#[tactic(auto, unfolding(crate::specs::Steps::end_right))]
-fn end_right(rows: &[u32], names: usize, row: usize, entry: Kind, least: usize, most: usize) -> bool
+// The innermost open row takes a row of this kind, and the row is placed.
+fn enter(
+    ends: &mut [usize; 100],
+    left: &mut [Items; 100],
+    own: &mut [usize; 100],
+    at: Progress,
+    row: usize,
+    kind: usize,
+    end: usize,
+    items: Items,
+) -> Progress
+    requires { CanEnter at.depth row }
+    ensures { Enters ends.old left.old own.old at row kind end items ends.new left.new own.new result }
+{
+    let d = at.depth;
+    let first = take(left, own, d - 1, kind, at.first);
+    place(ends, left, own, d, row, end, items, first)
+}
+
+// The end of a row, where that may be from `least` to `most`; 0, which is no row's end, if it is not or the side number is wrong.
+fn right_end(
+    rows: &[u32],
+    names: usize,
+    row: usize,
+    entry: Kind,
+    least: usize,
+    most: usize,
+) -> usize
     requires { RowRead rows.now row entry }
     ensures { RowTold rows.now names row entry least most result }
 {
-    (least..=most).contains(&table::end_at(rows, row))
-        && kinds::side_fits(entry, table::side_at(rows, row), names)
+    let end = table::end_at(rows, row);
+    if end < least {
+        return 0;
+    }
+    if most < end {
+        return 0;
+    }
+    if !kinds::side_fits(entry, table::side_at(rows, row), names) {
+        return 0;
+    }
+    end
 }
 
 // The kind and the side number of row i.
@@ -164,21 +189,20 @@ fn check_fields(rows: &[u32], names: usize, i: usize) -> Result<(), Refused>
     Ok(())
 }
 
-// A row is wrong by itself, `refusal` for its end or depth. Fields come before these: it is told for that only where no row from it on has a
-// wrong kind or side number.
-fn refuse(
-    rows: &[u32],
-    count: usize,
-    names: usize,
-    row: usize,
-    refusal: Refusal,
-) -> Result<(), Refused>
+// A row is wrong by itself, `deep` for its depth alone. Fields come before ends and depth: it is told for its end or depth only where no
+// row from it on has a wrong kind or side number.
+fn refuse(rows: &[u32], count: usize, names: usize, row: usize, deep: bool) -> Result<(), Refused>
     requires { Held rows.now count }
-    ensures { result ≡ refused_of rows.now count names row refusal }
+    ensures { result ≡ refused_of rows.now count names row deep }
 {
     for i in row..count {
         check_fields(rows, names, i)?;
     }
+    let refusal = if deep {
+        Refusal::TooDeep
+    } else {
+        Refusal::WrongEnd
+    };
     Err(Refused {
         refusal,
         place: row,
@@ -186,44 +210,42 @@ fn refuse(
 }
 
 // The rows after row 0, which is placed. The first that is wrong by itself is told by `refuse`, and one whose children do not fit at the end.
-// `first` is the first found so far of the latter, the count of rows while there is none: so it stays the least of two numbers.
 fn check_rest(
     rows: &[u32],
     count: usize,
     names: usize,
-    open_rows: &mut OpenRows,
-    mut first: usize,
+    mut at: Progress,
+    ends: &mut [usize; 100],
+    left: &mut [Items; 100],
+    own: &mut [usize; 100],
+    entries: &[Kind; 66],
 ) -> Result<(), Refused>
-    requires { RootPlaced rows.now count names open_rows.old first }
+    requires entries { entries.now ≡ map numbers kind_list }
+    requires placed { RootPlaced rows.now count names at.depth at.first ends.old left.old own.old }
     ensures { result ≡ checked_rows rows.now count names }
 {
-    let entries = kinds::kinds();
     let mut row = 1;
-    while 0 < open_rows.depth {
+    while 0 < at.depth {
         let kind = table::kind_at(rows, row);
         if 66 <= kind {
-            return refuse(rows, count, names, row, Refusal::WrongEnd);
+            return refuse(rows, count, names, row, false);
         }
         let entry = entries[kind];
-        let most = open_rows.rows[open_rows.depth - 1].end;
-        if !end_right(rows, names, row, entry, row + 1, most) {
-            return refuse(rows, count, names, row, Refusal::WrongEnd);
+        let d = at.depth;
+        let end = right_end(rows, names, row, entry, row + 1, ends[d - 1]);
+        if end == 0 {
+            return refuse(rows, count, names, row, false);
         }
-        if 100 <= open_rows.depth {
-            return refuse(rows, count, names, row, Refusal::TooDeep);
+        if 100 <= d {
+            return refuse(rows, count, names, row, true);
         }
-        let child = OpenRow {
-            end: table::end_at(rows, row),
-            left: entry.children,
-            own: row,
-        };
-        first = open_rows.enter(child, kind, first);
+        at = enter(ends, left, own, at, row, kind, end, entry.children);
         row += 1;
     }
-    if first < count {
+    if at.first < count {
         return Err(Refused {
             refusal: Refusal::WrongChildren,
-            place: first,
+            place: at.first,
         });
     }
     Ok(())
@@ -236,21 +258,19 @@ fn check_from_root(
     names: usize,
     items: Items,
     start: usize,
+    entries: &[Kind; 66],
 ) -> Result<(), Refused>
-    requires { Started rows.now count names items start }
+    requires entries { entries.now ≡ map numbers kind_list }
+    requires started { Started rows.now count names items start }
     ensures { result ≡ checked_rows rows.now count names }
 {
-    let root = OpenRow {
-        end: count,
-        left: items,
-        own: 0,
-    };
-    let mut open_rows = OpenRows {
-        rows: [UNUSED; 100],
-        depth: 0,
-    };
-    let first = open_rows.place(root, start);
-    check_rest(rows, count, names, &mut open_rows, first)
+    let mut ends = [0usize; 100];
+    let mut left = [0usize; 100];
+    let mut own = [0usize; 100];
+    let root = place(&mut ends, &mut left, &mut own, 0, 0, count, items, start);
+    check_rest(
+        rows, count, names, root, &mut ends, &mut left, &mut own, entries,
+    )
 }
 
 // The first row found before any is looked at: none, which is the count, or row 0 if its kind is no statement's.
@@ -276,11 +296,18 @@ pub fn check(rows: &[u32], count: usize, names: usize) -> Result<(), Refused>
     let entries = kinds::kinds();
     let kind = table::kind_at(rows, 0);
     if 66 <= kind {
-        return refuse(rows, count, names, 0, Refusal::WrongEnd);
+        return refuse(rows, count, names, 0, false);
     }
     let entry = entries[kind];
-    if !end_right(rows, names, 0, entry, count, count) {
-        return refuse(rows, count, names, 0, Refusal::WrongEnd);
+    if right_end(rows, names, 0, entry, count, count) == 0 {
+        return refuse(rows, count, names, 0, false);
     }
-    check_from_root(rows, count, names, entry.children, root_found(count, kind))
+    check_from_root(
+        rows,
+        count,
+        names,
+        entry.children,
+        root_found(count, kind),
+        &entries,
+    )
 }
