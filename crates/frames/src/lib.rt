@@ -49,7 +49,7 @@ fn next_byte<R: Read>(input: &mut R) -> io::Result<Option<u8>>
     Ok((0 < got).then_some(one[0]))
 }
 
-// The size once one more digit is read. It stays below 10 ^ 18, so that nothing is cut.
+// The size once one more digit is read. A size that is used has at most 18 digits, so that nothing of it is cut.
 fn with_digit(size: usize, digit: u8) -> usize
     requires { 48 ≤ digit }
 {

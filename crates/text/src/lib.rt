@@ -121,7 +121,8 @@ fn first_digits(s: &[u8], at: usize) -> Run
     }
 }
 
-// The field whose bytes up to a place were read and say this: nothing, where it has more of them.
+// The field whose bytes up to a place were read and say this. Where it has more of them, it says nothing; where another byte than `end` ends
+// it, or none, there is no field.
 #[tactic(auto, using(crate::proofs::FieldReads::from_ended, crate::proofs::FieldReads::from_far, crate::proofs::FieldReads::from_never))]
 pub fn field_from(s: &[u8], stop: usize, sep: u8, end: u8, value: Option<u32>) -> Option<Field>
     ensures { result ≡ field_from value sep end s.now stop }
