@@ -12,12 +12,13 @@ use Rattle.table.specs.Rows.{kind_at, side_at, end_at}
 use Rattle.kinds.specs.declared.Kind.{Kind}
 use Rattle.kinds.specs.Steps.{side_below}
 use Rattle.kinds.proofs.Below.{both_true}
+use Rattle.refusals.specs.declared.Refusal.{Refusal}
 use Rattle.refusals.specs.declared.Refusal.TheVariants.{WrongSide, WrongEnd, TooDeep}
 use Rattle.checks.specs.Checks.{Checked}
 use Rattle.refusals.specs.Refusals.{refused_at}
 use Rattle.checks.specs.Checks.{passed}
 use Rattle.checks.specs.Checks.{and_then, first_from, when_held, fields_at, fields_of, enclosing, end_fits, depth_at, ends_at, ends_of, checked_rows}
-use Rattle.checks.specs.Steps.{Held, RowRead, end_or_zero, RowTold, end_refusal, refused_of, alone_at}
+use Rattle.checks.specs.Steps.{Held, RowRead, end_or_zero, RowTold, refused_of, alone_at}
 use Rattle.checks.proofs.Rows.{Checking, checking_step, checking_stop, from_zero, checking_upto, both_pass}
 use Rattle.checks.proofs.Room.{holds_true}
 use Rattle.checks.proofs.FieldLaws.{unknown_told, side_told}
@@ -45,10 +46,10 @@ module _ (rows : List ℕ) (names row : ℕ) (numbers : Kind) (least most end : 
 pub ruleset end_answers = (end_low, end_high, end_side, end_right)
 
 -- the row is refused by itself; where its fields are right it is so for its depth, or for its end
-abbrev pub RefusedFor : List ℕ → ℕ → ℕ → ℕ → Bool → Type 0
-RefusedFor rows count names row deep = and_then (fields_at rows names row) (refused_at (end_refusal deep) row) ≡ alone_at rows count names row
+abbrev pub RefusedFor : List ℕ → ℕ → ℕ → ℕ → Refusal → Type 0
+RefusedFor rows count names row why = and_then (fields_at rows names row) (refused_at why row) ≡ alone_at rows count names row
 
-pub unknown_refused : (rows : List ℕ) (count names row k : ℕ) → k ≡ kind_at rows row → 66 ≤ k → RefusedFor rows count names row false
+pub unknown_refused : (rows : List ℕ) (count names row k : ℕ) → k ≡ kind_at rows row → 66 ≤ k → RefusedFor rows count names row WrongEnd
 unfolding alone_at
 unknown_refused rows count names row k i u = rw (unknown_told rows names row k i u)
 
@@ -89,7 +90,7 @@ module _ (rows : List ℕ) (count names row : ℕ) (numbers : Kind) (least most 
   pub end_told : (r ≡ 0 → ⊥) → r ≡ end_at rows row
   end_told n = told ∙ rw ((both_right n).0, (both_right n).1)
 
-  pub row_wrong : r ≡ 0 → RefusedFor rows count names row false
+  pub row_wrong : r ≡ 0 → RefusedFor rows count names row WrongEnd
   unfolding between
   row_wrong z = rw (fields_are, row_is) (go between sided refl told)
     where
@@ -102,7 +103,7 @@ module _ (rows : List ℕ) (count names row : ℕ) (numbers : Kind) (least most 
       go true true q t = absurd (omega (arith, b.some, leb-true least (end_at rows row) (both_true (leb least (end_at rows row)) (leb (end_at rows row) most) q).0))
 
   module _ (n : r ≡ 0 → ⊥) where
-    pub row_deep : 100 ≤ depth → RefusedFor rows count names row true
+    pub row_deep : 100 ≤ depth → RefusedFor rows count names row TooDeep
     row_deep h = rw (fields_are, row_is, (both_right n).0, (both_right n).1, le-ltb depth 100 h)
 
     pub row_right : depth < 100 → alone_at rows count names row ≡ passed
@@ -136,10 +137,10 @@ module _ (rows : List ℕ) (count names : ℕ) (h : Held rows count) where
     ends_left = ends_all ∙ from_zero (ends_at rows count) count ∙ checking_step ends_from l
 
     -- the table is refused as `refuse` tells
-    pub refused_checked : (deep : Bool) (out : Checked) → RefusedFor rows count names n deep → out ≡ refused_of rows count names n deep → out ≡ checked_rows rows count names
+    pub refused_checked : (why : Refusal) (out : Checked) → RefusedFor rows count names n why → out ≡ refused_of rows count names n why → out ≡ checked_rows rows count names
     unfolding alone_at refused_of checked_rows
-    refused_checked deep out t o = go (fields_at rows names n) refl
+    refused_checked why out t o = go (fields_at rows names n) refl
       where
         go : (f : Checked) → fields_at rows names n ≡ f → out ≡ checked_rows rows count names
-        go (Ok u) p = let q : ends_at rows count n ≡ refused_at (end_refusal deep) n = sym (rw p at t) in o ∙ rw (fields_left, ends_left, q)
+        go (Ok u) p = let q : ends_at rows count n ≡ refused_at why n = sym (rw p at t) in o ∙ rw (fields_left, ends_left, q)
         go (Err e) p = let q : first_from (fields_at rows names) (count - n) n ≡ Err e = sym fields_from.same ∙ checking_stop fields_from l e.refusal e.place p in o ∙ rw (fields_left, q)

@@ -2,7 +2,6 @@
 -- in; where the ends of the whole table nest, the children are known as Known says. The rows that are left fall.
 use Prim.Native.Nat.{ℕ, suc, ◌+◌, ◌-◌, ◌*◌, ◌≤◌, ◌<◌}
 use mathlib.Core.Path.{◌≡◌, refl, sym, ap, ◌∙◌}
-use mathlib.Core.Bool.{Bool, true, false}
 use mathlib.Core.List.{List, [], ◌∷◌, map}
 use mathlib.Core.Logic.{⊎_elim}
 use native.Mathlib.Omega.{arith}
@@ -13,6 +12,8 @@ use Rattle.table.specs.Rows.{kind_at, end_at, Nested}
 use Rattle.kinds.specs.declared.Kind.{Kind}
 use Rattle.kinds.specs.Kinds.{kinds, entry}
 use Rattle.kinds.specs.Steps.{numbers, items_number}
+use Rattle.refusals.specs.declared.Refusal.{Refusal}
+use Rattle.refusals.specs.declared.Refusal.TheVariants.{WrongEnd, TooDeep}
 use Rattle.checks.specs.Checks.{Checked}
 use Rattle.checks.specs.Checks.{passed}
 use Rattle.checks.specs.declared.Progress.{Progress}
@@ -153,23 +154,23 @@ module _ (rows : List ℕ) (count names start : ℕ) (ends left own : List ℕ) 
     bounds = record { some = omega arith; fits = rw (enclosed, add-one); deep = rw (← w.kept, last_length) (omega arith) }
 
     -- it is refused by itself
-    refused : (deep : Bool) (out : Checked) → RefusedFor rows count names row deep → out ≡ refused_of rows count names row deep → out ≡ checked_rows rows count names
-    refused deep out t o = refused_checked rows count names w.held row row_below w.right deep out t o
+    refused : (why : Refusal) (out : Checked) → RefusedFor rows count names row why → out ≡ refused_of rows count names row why → out ≡ checked_rows rows count names
+    refused why out t o = refused_checked rows count names w.held row row_below w.right why out t o
 
     module _ (k : ℕ) (i : k ≡ kind_at rows row) where
-      pub walking_unknown : (out : Checked) → 66 ≤ k → out ≡ refused_of rows count names row false → out ≡ checked_rows rows count names
-      walking_unknown out m o = refused false out (unknown_refused rows count names row k i m) o
+      pub walking_unknown : (out : Checked) → 66 ≤ k → out ≡ refused_of rows count names row WrongEnd → out ≡ checked_rows rows count names
+      walking_unknown out m o = refused WrongEnd out (unknown_refused rows count names row k i m) o
 
       pub walking_read : (entries : List Kind) (d : Kind) → k < 66 → entries ≡ map numbers kinds → RowRead rows row (get_or entries k d)
       walking_read entries d m t = read_row rows names row k i entries d row_held m t
 
     module _ (n : Kind) (end : ℕ) (q : RowTold rows names row n (row + 1) (get_or ends (depth - 1) 0) end) where
-      pub walking_wrong : (out : Checked) → end ≡ 0 → out ≡ refused_of rows count names row false → out ≡ checked_rows rows count names
-      walking_wrong out z o = refused false out (row_wrong rows count names row n (row + 1) (get_or ends (depth - 1) 0) depth bounds end q z) o
+      pub walking_wrong : (out : Checked) → end ≡ 0 → out ≡ refused_of rows count names row WrongEnd → out ≡ checked_rows rows count names
+      walking_wrong out z o = refused WrongEnd out (row_wrong rows count names row n (row + 1) (get_or ends (depth - 1) 0) depth bounds end q z) o
 
       module _ (e : end ≡ 0 → ⊥) where
-        pub walking_deep : (out : Checked) → 100 ≤ depth → out ≡ refused_of rows count names row true → out ≡ checked_rows rows count names
-        walking_deep out l o = refused true out (row_deep rows count names row n (row + 1) (get_or ends (depth - 1) 0) depth bounds end q e l) o
+        pub walking_deep : (out : Checked) → 100 ≤ depth → out ≡ refused_of rows count names row TooDeep → out ≡ checked_rows rows count names
+        walking_deep out l o = refused TooDeep out (row_deep rows count names row n (row + 1) (get_or ends (depth - 1) 0) depth bounds end q e l) o
 
         -- or taken by the row that it stands in
         module _ (l : depth < 100) (k : ℕ) (i : k ≡ kind_at rows row) (after : List ℕ) (f : ℕ) (x : Takes left own (depth - 1) k first after f) where

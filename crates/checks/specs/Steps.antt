@@ -6,7 +6,6 @@ use Rattle.kinds.specs.Kinds.{S, entry, in_class, side_fits}
 use Rattle.kinds.specs.Steps.{items_number, side_below}
 use Rattle.kinds.proofs.Steps.{Left}
 use Rattle.refusals.specs.declared.Refusal.{Refusal}
-use Rattle.refusals.specs.declared.Refusal.TheVariants.{WrongEnd, TooDeep}
 use Rattle.checks.specs.Checks.{Checked}
 use Rattle.refusals.specs.Refusals.{refused_at}
 use Rattle.checks.specs.Checks.{passed}
@@ -95,14 +94,9 @@ pub record RowTold (rows : List ℕ) (names row : ℕ) (numbers : Kind) (least m
   pub read : RowRead rows row numbers
   pub answer : r ≡ end_or_zero rows names numbers row least most
 
--- why a row is refused where all fields are right: for its depth, or for its end
-abbrev pub end_refusal : Bool → Refusal
-end_refusal true = TooDeep
-end_refusal false = WrongEnd
-
--- what `refuse` tells of a row that is wrong by itself: the first wrong field from it on, and where there is none the row
-unfoldable pub refused_of : List ℕ → ℕ → ℕ → ℕ → Bool → Checked
-refused_of rows count names row deep = and_then (first_from (fields_at rows names) (count - row) row) (refused_at (end_refusal deep) row)
+-- what `refuse` tells of a row that is wrong by itself: the first wrong field from it on, and where there is none the row's end or depth
+unfoldable pub refused_of : List ℕ → ℕ → ℕ → ℕ → Refusal → Checked
+refused_of rows count names row end_or_depth = and_then (first_from (fields_at rows names) (count - row) row) (refused_at end_or_depth row)
 
 -- the first row found before any is looked at: none, which is the count, or row 0 if its kind is no statement's
 unfoldable pub root_found : ℕ → ℕ → ℕ

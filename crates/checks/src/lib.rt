@@ -189,20 +189,21 @@ fn check_fields(rows: &[u32], names: usize, i: usize) -> Result<(), Refused>
     Ok(())
 }
 
-// A row is wrong by itself, `deep` for its depth alone. Fields come before ends and depth: it is told for its end or depth only where no
-// row from it on has a wrong kind or side number.
-fn refuse(rows: &[u32], count: usize, names: usize, row: usize, deep: bool) -> Result<(), Refused>
+// A row is wrong by itself, `refusal` for its end or depth. Fields come before these: it is told for that only where no row from it on has a
+// wrong kind or side number.
+fn refuse(
+    rows: &[u32],
+    count: usize,
+    names: usize,
+    row: usize,
+    refusal: Refusal,
+) -> Result<(), Refused>
     requires { Held rows.now count }
-    ensures { result ≡ refused_of rows.now count names row deep }
+    ensures { result ≡ refused_of rows.now count names row refusal }
 {
     for i in row..count {
         check_fields(rows, names, i)?;
     }
-    let refusal = if deep {
-        Refusal::TooDeep
-    } else {
-        Refusal::WrongEnd
-    };
     Err(Refused {
         refusal,
         place: row,
@@ -228,16 +229,16 @@ fn check_rest(
     while 0 < at.depth {
         let kind = table::kind_at(rows, row);
         if 66 <= kind {
-            return refuse(rows, count, names, row, false);
+            return refuse(rows, count, names, row, Refusal::WrongEnd);
         }
         let entry = entries[kind];
         let d = at.depth;
         let end = right_end(rows, names, row, entry, row + 1, ends[d - 1]);
         if end == 0 {
-            return refuse(rows, count, names, row, false);
+            return refuse(rows, count, names, row, Refusal::WrongEnd);
         }
         if 100 <= d {
-            return refuse(rows, count, names, row, true);
+            return refuse(rows, count, names, row, Refusal::TooDeep);
         }
         at = enter(ends, left, own, at, row, kind, end, entry.children);
         row += 1;
@@ -296,11 +297,11 @@ pub fn check(rows: &[u32], count: usize, names: usize) -> Result<(), Refused>
     let entries = kinds::kinds();
     let kind = table::kind_at(rows, 0);
     if 66 <= kind {
-        return refuse(rows, count, names, 0, false);
+        return refuse(rows, count, names, 0, Refusal::WrongEnd);
     }
     let entry = entries[kind];
     if right_end(rows, names, 0, entry, count, count) == 0 {
-        return refuse(rows, count, names, 0, false);
+        return refuse(rows, count, names, 0, Refusal::WrongEnd);
     }
     check_from_root(
         rows,
