@@ -82,17 +82,14 @@ pub record RowRead (rows : List ℕ) (row : ℕ) (numbers : Kind) : Type 0 where
   pub sides : (names side : ℕ) → side_below numbers.sides names side ≡ side_fits (entry (kind_at rows row)).sides names side
   pub children : numbers.children ≡ items_number (entry (kind_at rows row)).children
 
--- what `right_end` answers of a row whose end may be from `least` to `most`
-unfoldable pub end_or_zero : List ℕ → ℕ → Kind → ℕ → ℕ → ℕ → ℕ
-end_or_zero rows names numbers row least most =
-    cond (leb least (end_at rows row) && leb (end_at rows row) most)
-    (cond (side_below numbers.sides names (side_at rows row)) (end_at rows row) 0)
-    0
+-- what `end_right` answers of a row whose end may be from `least` to `most`
+unfoldable pub end_right : List ℕ → ℕ → Kind → ℕ → ℕ → ℕ → Bool
+end_right rows names numbers row least most = (leb least (end_at rows row) && leb (end_at rows row) most) && side_below numbers.sides names (side_at rows row)
 
 -- what it tells: of which row, and the answer
-pub record RowTold (rows : List ℕ) (names row : ℕ) (numbers : Kind) (least most r : ℕ) : Type 0 where
+pub record RowTold (rows : List ℕ) (names row : ℕ) (numbers : Kind) (least most : ℕ) (r : Bool) : Type 0 where
   pub read : RowRead rows row numbers
-  pub answer : r ≡ end_or_zero rows names numbers row least most
+  pub answer : r ≡ end_right rows names numbers row least most
 
 -- what `refuse` tells of a row that is wrong by itself: the first wrong field from it on, and where there is none the row's end or depth
 unfoldable pub refused_of : List ℕ → ℕ → ℕ → ℕ → Refusal → Checked
