@@ -11,8 +11,9 @@ use Rattle.kinds.specs.declared.Kind.{Kind}
 use Rattle.kinds.specs.Kinds.{kinds, entry, is_kind, side_fits}
 use Rattle.kinds.specs.Steps.{numbers, side_below}
 use Rattle.kinds.proofs.Numbers.{entry_sides, entry_items}
+use Rattle.refusals.specs.declared.Refusal.{Refusal}
 use Rattle.refusals.specs.declared.Refused.{Refused}
-use Rattle.refusals.specs.declared.Refusal.TheVariants.{UnknownKind, WrongSide, WrongEnd, TooDeep}
+use Rattle.refusals.specs.declared.Refusal.TheVariants.{UnknownKind, WrongSide}
 use Rattle.refusals.specs.Refusals.{refused_at}
 use Rattle.checks.specs.Checks.{Checked, passed, fields_at}
 use Rattle.checks.specs.Steps.{RowRead, refused_of}
@@ -53,20 +54,15 @@ pub ruleset fields_told = (fields_unknown, fields_side, fields_right)
 -- the loop of `refuse` has come to row i
 module _ (rows : List ℕ) (names count row i : ℕ) (w : Checking (fields_at rows names) count row i) where
   module _ (h : i < count) (c : Checked) (t : c ≡ fields_at rows names i) where
-    pub refuse_found : (deep : Bool) (e : Refused) → c ≡ Err e → Err e ≡ refused_of rows count names row deep
+    pub refuse_found : (why : Refusal) (e : Refused) → c ≡ Err e → Err e ≡ refused_of rows count names row why
     unfolding refused_of
-    refuse_found deep e q = rw (checking_stop w h e.refusal e.place (sym t ∙ q))
+    refuse_found why e q = rw (checking_stop w h e.refusal e.place (sym t ∙ q))
 
     pub refuse_next : (u : Unit {0}) → c ≡ Ok u → Checking (fields_at rows names) count row (i + 1)
     refuse_next u q = checking_next w h (sym t ∙ q)
 
-  module _ (h : count ≤ i) (deep : Bool) where
-    pub refuse_deep : deep ≡ true → refused_at TooDeep row ≡ refused_of rows count names row deep
-    unfolding refused_of
-    refuse_deep y = rw (y, checking_done w h)
+  pub refuse_end : count ≤ i → (why : Refusal) → refused_at why row ≡ refused_of rows count names row why
+  unfolding refused_of
+  refuse_end h why = rw (checking_done w h)
 
-    pub refuse_end : deep ≡ false → refused_at WrongEnd row ≡ refused_of rows count names row deep
-    unfolding refused_of
-    refuse_end n = rw (n, checking_done w h)
-
-pub ruleset refusing = (checking_start, refuse_found, refuse_next, refuse_deep, refuse_end)
+pub ruleset refusing = (checking_start, refuse_found, refuse_next, refuse_end)

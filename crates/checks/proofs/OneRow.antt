@@ -1,72 +1,50 @@
--- A row by itself: what `right_end` answers, what that says of the row's fields, end and depth, and that a table whose first wrong row is
+-- A row by itself: what the answer of `end_right` says of the row's fields, end and depth, and that a table whose first wrong row is
 -- refused is refused as `refuse` tells.
 use Rattle.std.specs.Prelude.{Ok, Err}
 use Prim.Native.Nat.{ℕ, suc, ◌+◌, ◌-◌, ◌≤◌, ◌<◌}
 use mathlib.Core.Path.{◌≡◌, refl, sym, ◌∙◌}
-use mathlib.Core.Bool.{Bool, true, false, cond, not, ◌&&◌}
+use mathlib.Core.Bool.{Bool, true, false, cond, ◌&&◌}
 use mathlib.Core.List.{List}
 use native.Mathlib.Omega.{arith}
 use lib.Dec.{leb, ltb}
-use borrow.Author.Tests.{lt-ltb, le-ltb, leb-true, le-leb, lt-leb, not-true, not-false}
+use borrow.Author.Tests.{lt-ltb, le-ltb}
 use Rattle.table.specs.Rows.{kind_at, side_at, end_at}
 use Rattle.kinds.specs.declared.Kind.{Kind}
 use Rattle.kinds.specs.Steps.{side_below}
-use Rattle.kinds.proofs.Below.{both_true}
+use Rattle.kinds.proofs.Below.{true_not_false, both_true}
+use Rattle.refusals.specs.declared.Refusal.{Refusal}
 use Rattle.refusals.specs.declared.Refusal.TheVariants.{WrongSide, WrongEnd, TooDeep}
 use Rattle.checks.specs.Checks.{Checked}
 use Rattle.refusals.specs.Refusals.{refused_at}
 use Rattle.checks.specs.Checks.{passed}
 use Rattle.checks.specs.Checks.{and_then, first_from, when_held, fields_at, fields_of, enclosing, end_fits, depth_at, ends_at, ends_of, checked_rows}
-use Rattle.checks.specs.Steps.{Held, RowRead, end_or_zero, RowTold, end_refusal, refused_of, alone_at}
+use Rattle.checks.specs.Steps.{Held, end_right, RowTold, refused_of, alone_at}
 use Rattle.checks.proofs.Rows.{Checking, checking_step, checking_stop, from_zero, checking_upto, both_pass}
 use Rattle.checks.proofs.Room.{holds_true}
 use Rattle.checks.proofs.FieldLaws.{unknown_told, side_told}
 
--- what `right_end` answers
-module _ (rows : List ℕ) (names row : ℕ) (numbers : Kind) (least most end : ℕ) (read : RowRead rows row numbers) (e : end ≡ end_at rows row) where
-  pub end_low : end < least → RowTold rows names row numbers least most 0
-  unfolding end_or_zero
-  end_low h = record { read = read; answer = rw (← e, lt-leb least end h) }
-
-  module _ (l : least ≤ end) where
-    pub end_high : most < end → RowTold rows names row numbers least most 0
-    unfolding end_or_zero
-    end_high h = record { read = read; answer = rw (← e, le-leb least end l, lt-leb end most h) }
-
-    module _ (m : end ≤ most) (side : ℕ) (b : Bool) (o : side ≡ side_at rows row) (t : b ≡ side_below numbers.sides names side) where
-      pub end_side : not b ≡ true → RowTold rows names row numbers least most 0
-      unfolding end_or_zero
-      end_side n = record { read = read; answer = rw (← e, le-leb least end l, le-leb end most m, ← o, ← t, not-true b n) }
-
-      pub end_right : not b ≡ false → RowTold rows names row numbers least most end
-      unfolding end_or_zero
-      end_right n = record { read = read; answer = rw (← e, le-leb least end l, le-leb end most m, ← o, ← t, not-false b n) }
-
-pub ruleset end_answers = (end_low, end_high, end_side, end_right)
-
 -- the row is refused by itself; where its fields are right it is so for its depth, or for its end
-abbrev pub RefusedFor : List ℕ → ℕ → ℕ → ℕ → Bool → Type 0
-RefusedFor rows count names row deep = and_then (fields_at rows names row) (refused_at (end_refusal deep) row) ≡ alone_at rows count names row
+abbrev pub RefusedFor : List ℕ → ℕ → ℕ → ℕ → Refusal → Type 0
+RefusedFor rows count names row why = and_then (fields_at rows names row) (refused_at why row) ≡ alone_at rows count names row
 
-pub unknown_refused : (rows : List ℕ) (count names row k : ℕ) → k ≡ kind_at rows row → 66 ≤ k → RefusedFor rows count names row false
+pub unknown_refused : (rows : List ℕ) (count names row k : ℕ) → k ≡ kind_at rows row → 66 ≤ k → RefusedFor rows count names row WrongEnd
 unfolding alone_at
 unknown_refused rows count names row k i u = rw (unknown_told rows names row k i u)
 
 -- the ends that fit the row are those from `least` to `most`, and it stands in so many rows
 pub record Bounds (rows : List ℕ) (count row least most depth : ℕ) : Type 0 where
-  pub some : 0 < least
   pub fits : end_fits count row (end_at rows row) (enclosing rows row) ≡ (leb least (end_at rows row) && leb (end_at rows row) most)
   pub deep : depth_at rows row ≡ suc depth
 
-module _ (rows : List ℕ) (count names row : ℕ) (numbers : Kind) (least most depth : ℕ) (b : Bounds rows count row least most depth) (r : ℕ) (w : RowTold rows names row numbers least most r) where
+module _ (rows : List ℕ) (count names row : ℕ) (numbers : Kind) (least most depth : ℕ) (b : Bounds rows count row least most depth) (r : Bool) (w : RowTold rows names row numbers least most r) where
   unfoldable between : Bool
   between = leb least (end_at rows row) && leb (end_at rows row) most
 
   unfoldable sided : Bool
   sided = side_below numbers.sides names (side_at rows row)
 
-  told : r ≡ cond between (cond sided (end_at rows row) 0) 0
-  unfolding end_or_zero between sided
+  told : r ≡ (between && sided)
+  unfolding end_right between sided
   told = w.answer
 
   fields_are : fields_at rows names row ≡ cond sided passed (refused_at WrongSide row)
@@ -77,36 +55,26 @@ module _ (rows : List ℕ) (count names row : ℕ) (numbers : Kind) (least most 
   unfolding alone_at ends_at between
   row_is = rw (fields_are, b.fits, b.deep)
 
-  -- an end that is told is right, and so is the side number
-  both_right : (r ≡ 0 → ⊥) → (between ≡ true) × (sided ≡ true)
-  both_right n = go between sided told
-    where
-      go : (x y : Bool) → r ≡ cond x (cond y (end_at rows row) 0) 0 → (x ≡ true) × (y ≡ true)
-      go true true e = (refl, refl)
-      go true false e = absurd (n e)
-      go false y e = absurd (n e)
-
-  pub end_told : (r ≡ 0 → ⊥) → r ≡ end_at rows row
-  end_told n = told ∙ rw ((both_right n).0, (both_right n).1)
-
-  pub row_wrong : r ≡ 0 → RefusedFor rows count names row false
-  unfolding between
-  row_wrong z = rw (fields_are, row_is) (go between sided refl told)
+  pub row_wrong : r ≡ false → RefusedFor rows count names row WrongEnd
+  row_wrong z = rw (fields_are, row_is) (go between sided (sym told ∙ z))
     where
       go : (x y : Bool)
-          → between ≡ x
-          → r ≡ cond x (cond y (end_at rows row) 0) 0
+          → (x && y) ≡ false
           → and_then (cond y passed (refused_at WrongSide row)) (refused_at WrongEnd row) ≡ and_then (cond y passed (refused_at WrongSide row)) (cond x (cond (ltb depth 100) passed (refused_at TooDeep row)) (refused_at WrongEnd row))
-      go x false q t = refl
-      go false true q t = refl
-      go true true q t = absurd (omega (arith, b.some, leb-true least (end_at rows row) (both_true (leb least (end_at rows row)) (leb (end_at rows row) most) q).0))
+      go false y t = refl
+      go true false t = refl
+      go true true t = true_not_false t
 
-  module _ (n : r ≡ 0 → ⊥) where
-    pub row_deep : 100 ≤ depth → RefusedFor rows count names row true
-    row_deep h = rw (fields_are, row_is, (both_right n).0, (both_right n).1, le-ltb depth 100 h)
+  -- the end and the side number are right
+  module _ (y : r ≡ true) where
+    both_right : (between ≡ true) × (sided ≡ true)
+    both_right = both_true between sided (sym told ∙ y)
+
+    pub row_deep : 100 ≤ depth → RefusedFor rows count names row TooDeep
+    row_deep h = rw (fields_are, row_is, both_right.0, both_right.1, le-ltb depth 100 h)
 
     pub row_right : depth < 100 → alone_at rows count names row ≡ passed
-    row_right h = rw (row_is, (both_right n).0, (both_right n).1, lt-ltb depth 100 h)
+    row_right h = rw (row_is, both_right.0, both_right.1, lt-ltb depth 100 h)
 
 -- the rows before row n are right by themselves
 module _ (rows : List ℕ) (count names : ℕ) (h : Held rows count) where
@@ -136,10 +104,10 @@ module _ (rows : List ℕ) (count names : ℕ) (h : Held rows count) where
     ends_left = ends_all ∙ from_zero (ends_at rows count) count ∙ checking_step ends_from l
 
     -- the table is refused as `refuse` tells
-    pub refused_checked : (deep : Bool) (out : Checked) → RefusedFor rows count names n deep → out ≡ refused_of rows count names n deep → out ≡ checked_rows rows count names
+    pub refused_checked : (why : Refusal) (out : Checked) → RefusedFor rows count names n why → out ≡ refused_of rows count names n why → out ≡ checked_rows rows count names
     unfolding alone_at refused_of checked_rows
-    refused_checked deep out t o = go (fields_at rows names n) refl
+    refused_checked why out t o = go (fields_at rows names n) refl
       where
         go : (f : Checked) → fields_at rows names n ≡ f → out ≡ checked_rows rows count names
-        go (Ok u) p = let q : ends_at rows count n ≡ refused_at (end_refusal deep) n = sym (rw p at t) in o ∙ rw (fields_left, ends_left, q)
+        go (Ok u) p = let q : ends_at rows count n ≡ refused_at why n = sym (rw p at t) in o ∙ rw (fields_left, ends_left, q)
         go (Err e) p = let q : first_from (fields_at rows names) (count - n) n ≡ Err e = sym fields_from.same ∙ checking_stop fields_from l e.refusal e.place p in o ∙ rw (fields_left, q)

@@ -2,10 +2,11 @@
 -- in; where the ends of the whole table nest, the children are known as Known says. The rows that are left fall.
 use Prim.Native.Nat.{ℕ, suc, ◌+◌, ◌-◌, ◌*◌, ◌≤◌, ◌<◌}
 use mathlib.Core.Path.{◌≡◌, refl, sym, ap, ◌∙◌}
-use mathlib.Core.Bool.{Bool, true, false}
+use mathlib.Core.Bool.{Bool, true, false, not}
 use mathlib.Core.List.{List, [], ◌∷◌, map}
 use mathlib.Core.Logic.{⊎_elim}
 use native.Mathlib.Omega.{arith}
+use borrow.Author.Tests.{not-true, not-false}
 use native.Mathlib.Nat.{eq-or-lt_of_le}
 use native.Mathlib.Numerals.{add-one}
 use lib.ListN.{length, get_or, set, length-set}
@@ -13,6 +14,8 @@ use Rattle.table.specs.Rows.{kind_at, end_at, Nested}
 use Rattle.kinds.specs.declared.Kind.{Kind}
 use Rattle.kinds.specs.Kinds.{kinds, entry}
 use Rattle.kinds.specs.Steps.{numbers, items_number}
+use Rattle.refusals.specs.declared.Refusal.{Refusal}
+use Rattle.refusals.specs.declared.Refusal.TheVariants.{WrongEnd, TooDeep}
 use Rattle.checks.specs.Checks.{Checked}
 use Rattle.checks.specs.Checks.{passed}
 use Rattle.checks.specs.declared.Progress.{Progress}
@@ -23,7 +26,7 @@ use Rattle.checks.proofs.FieldLaws.{read_row}
 use Rattle.checks.proofs.Enclosing.{Rises, end_least, end_after, enclosing_same, enclosing_more}
 use Rattle.checks.proofs.Nest.{RightEnd, right_end, rises_at, root, within, LastAbove, last_above, none_above}
 use Rattle.checks.proofs.Kept.{last_first, top, pushed, last_length, close_down, close_above}
-use Rattle.checks.proofs.OneRow.{RefusedFor, Bounds, unknown_refused, row_wrong, row_deep, row_right, end_told, refused_checked}
+use Rattle.checks.proofs.OneRow.{RefusedFor, Bounds, unknown_refused, row_wrong, row_deep, row_right, refused_checked}
 use Rattle.checks.proofs.Known.{Opens, Known, close_known, take_known, open_known, leaf_known}
 
 -- the rows before row n are right by themselves
@@ -150,38 +153,38 @@ module _ (rows : List ℕ) (count names start : ℕ) (ends left own : List ℕ) 
 
     bounds : Bounds rows count row (row + 1) (get_or ends (depth - 1) 0) depth
     unfolding end_fits depth_at
-    bounds = record { some = omega arith; fits = rw (enclosed, add-one); deep = rw (← w.kept, last_length) (omega arith) }
+    bounds = record { fits = rw (enclosed, add-one); deep = rw (← w.kept, last_length) (omega arith) }
 
     -- it is refused by itself
-    refused : (deep : Bool) (out : Checked) → RefusedFor rows count names row deep → out ≡ refused_of rows count names row deep → out ≡ checked_rows rows count names
-    refused deep out t o = refused_checked rows count names w.held row row_below w.right deep out t o
+    refused : (why : Refusal) (out : Checked) → RefusedFor rows count names row why → out ≡ refused_of rows count names row why → out ≡ checked_rows rows count names
+    refused why out t o = refused_checked rows count names w.held row row_below w.right why out t o
 
     module _ (k : ℕ) (i : k ≡ kind_at rows row) where
-      pub walking_unknown : (out : Checked) → 66 ≤ k → out ≡ refused_of rows count names row false → out ≡ checked_rows rows count names
-      walking_unknown out m o = refused false out (unknown_refused rows count names row k i m) o
+      pub walking_unknown : (out : Checked) → 66 ≤ k → out ≡ refused_of rows count names row WrongEnd → out ≡ checked_rows rows count names
+      walking_unknown out m o = refused WrongEnd out (unknown_refused rows count names row k i m) o
 
       pub walking_read : (entries : List Kind) (d : Kind) → k < 66 → entries ≡ map numbers kinds → RowRead rows row (get_or entries k d)
       walking_read entries d m t = read_row rows names row k i entries d row_held m t
 
-    module _ (n : Kind) (end : ℕ) (q : RowTold rows names row n (row + 1) (get_or ends (depth - 1) 0) end) where
-      pub walking_wrong : (out : Checked) → end ≡ 0 → out ≡ refused_of rows count names row false → out ≡ checked_rows rows count names
-      walking_wrong out z o = refused false out (row_wrong rows count names row n (row + 1) (get_or ends (depth - 1) 0) depth bounds end q z) o
+    module _ (n : Kind) (b : Bool) (q : RowTold rows names row n (row + 1) (get_or ends (depth - 1) 0) b) where
+      pub walking_wrong : (out : Checked) → not b ≡ true → out ≡ refused_of rows count names row WrongEnd → out ≡ checked_rows rows count names
+      walking_wrong out z o = refused WrongEnd out (row_wrong rows count names row n (row + 1) (get_or ends (depth - 1) 0) depth bounds b q (not-true b z)) o
 
-      module _ (e : end ≡ 0 → ⊥) where
-        pub walking_deep : (out : Checked) → 100 ≤ depth → out ≡ refused_of rows count names row true → out ≡ checked_rows rows count names
-        walking_deep out l o = refused true out (row_deep rows count names row n (row + 1) (get_or ends (depth - 1) 0) depth bounds end q e l) o
+      module _ (y : not b ≡ false) where
+        pub walking_deep : (out : Checked) → 100 ≤ depth → out ≡ refused_of rows count names row TooDeep → out ≡ checked_rows rows count names
+        walking_deep out l o = refused TooDeep out (row_deep rows count names row n (row + 1) (get_or ends (depth - 1) 0) depth bounds b q (not-false b y) l) o
 
         -- or taken by the row that it stands in
-        module _ (l : depth < 100) (k : ℕ) (i : k ≡ kind_at rows row) (after : List ℕ) (f : ℕ) (x : Takes left own (depth - 1) k first after f) where
+        module _ (end : ℕ) (e : end ≡ end_at rows row) (l : depth < 100) (k : ℕ) (i : k ≡ kind_at rows row) (after : List ℕ) (f : ℕ) (x : Takes left own (depth - 1) k first after f) where
           taken : Taken rows count names start ends after own row depth end n.children f
           taken = record {
             held = w.held;
             rooms = record { for_ends = w.rooms.for_ends; for_left = ap length x.changed ∙ length-set left (depth - 1) x.items ∙ w.rooms.for_left; for_own = w.rooms.for_own };
             below = row_below;
             shallow = l;
-            right = λ j p. ⊎_elim (λ (z : j ≡ row). rw z (row_right rows count names row n (row + 1) (get_or ends (depth - 1) 0) depth bounds end q e l)) (λ b. w.right j b) (eq-or-lt_of_le (before j p));
+            right = λ j p. ⊎_elim (λ (z : j ≡ row). rw z (row_right rows count names row n (row + 1) (get_or ends (depth - 1) 0) depth bounds b q (not-false b y) l)) (λ h. w.right j h) (eq-or-lt_of_le (before j p));
             kept = w.kept;
-            is = end_told rows count names row n (row + 1) (get_or ends (depth - 1) 0) depth bounds end q e;
+            is = e;
             children = q.read.children;
             known = λ g. (
                 let z : suc (depth - 1) ≡ depth = omega arith in
@@ -193,12 +196,13 @@ module _ (rows : List ℕ) (count names start : ℕ) (ends left own : List ℕ) 
               before j p = omega arith
 
 -- the row come to is entered
-pub walking_next : (rows : List ℕ) (count names start : ℕ) (ends left own : List ℕ) (row : ℕ) (at : Progress) (k : ℕ) (n : Kind) (end : ℕ) (ends' left' own' : List ℕ) (at' : Progress)
+pub walking_next : (rows : List ℕ) (count names start : ℕ) (ends left own : List ℕ) (row : ℕ) (at : Progress) (k : ℕ) (n : Kind) (b : Bool) (end : ℕ) (ends' left' own' : List ℕ) (at' : Progress)
     → Enters ends left own at row k end n.children ends' left' own' at'
-    → (end ≡ 0 → ⊥)
-    → RowTold rows names row n (row + 1) (get_or ends (at.depth - 1) 0) end
+    → not b ≡ false
+    → RowTold rows names row n (row + 1) (get_or ends (at.depth - 1) 0) b
+    → end ≡ end_at rows row
     → k ≡ kind_at rows row
     → Walking rows count names start ends left own row at.depth at.first
     → Walking rows count names start ends' left' own' (row + 1) at'.depth at'.first
-walking_next rows count names start ends left own row at k n end ends' left' own' at' x e q i w =
-    placed (taken rows count names start ends left own row at.depth at.first w x.room.some n end q e x.room.shallow k i x.after x.first x.takes) ends' left' own' at'.depth at'.first x.places
+walking_next rows count names start ends left own row at k n b end ends' left' own' at' x y q e i w =
+    placed (taken rows count names start ends left own row at.depth at.first w x.room.some n b q y end e x.room.shallow k i x.after x.first x.takes) ends' left' own' at'.depth at'.first x.places

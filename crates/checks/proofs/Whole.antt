@@ -12,7 +12,8 @@ use Rattle.table.specs.Rows.{kind_at, end_at}
 use Rattle.kinds.specs.declared.Kind.{Kind}
 use Rattle.kinds.specs.Kinds.{S, kinds, is_kind, in_class}
 use Rattle.kinds.specs.Steps.{numbers}
-use Rattle.refusals.specs.declared.Refusal.TheVariants.{WrongChildren, WrongRecord}
+use Rattle.refusals.specs.declared.Refusal.{Refusal}
+use Rattle.refusals.specs.declared.Refusal.TheVariants.{WrongEnd, WrongChildren, WrongRecord}
 use Rattle.checks.specs.Checks.{Checked}
 use Rattle.refusals.specs.Refusals.{refused_at}
 use Rattle.checks.specs.Checks.{passed}
@@ -103,9 +104,9 @@ equal_both a b = go (leb b a) (leb a b) refl refl
     go true false p q = ne_eqb a b (λ e. omega (arith, leb-false a b q))
     go false y p q = ne_eqb a b (λ e. omega (arith, leb-false b a p))
 
-root_bounds : (rows : List ℕ) (count : ℕ) → 0 < count → Bounds rows count 0 count count 0
+root_bounds : (rows : List ℕ) (count : ℕ) → Bounds rows count 0 count count 0
 unfolding end_fits enclosing ends_before above
-root_bounds rows count s = record { some = s; fits = equal_both (end_at rows 0) count; deep = root_depth rows }
+root_bounds rows count = record { fits = equal_both (end_at rows 0) count; deep = root_depth rows }
 
 module _ (rows : List ℕ) (count names : ℕ) (b : Bool) (e : b ≡ holds rows count) where
   pub root_unheld : not b ≡ true → refused_at WrongRecord 0 ≡ checked_rows rows count names
@@ -119,24 +120,24 @@ module _ (rows : List ℕ) (count names : ℕ) (b : Bool) (e : b ≡ holds rows 
     pub root_room : 4 < length rows
     root_room = omega (arith, root_held.some, root_held.room)
 
-    refused : (deep : Bool) (out : Checked) → RefusedFor rows count names 0 deep → out ≡ refused_of rows count names 0 deep → out ≡ checked_rows rows count names
-    refused deep out t o = refused_checked rows count names root_held 0 root_held.some (λ i l. absurd (omega arith)) deep out t o
+    refused : (why : Refusal) (out : Checked) → RefusedFor rows count names 0 why → out ≡ refused_of rows count names 0 why → out ≡ checked_rows rows count names
+    refused why out t o = refused_checked rows count names root_held 0 root_held.some (λ i l. absurd (omega arith)) why out t o
 
     module _ (k : ℕ) (i : k ≡ kind_at rows 0) where
-      pub root_unknown : (out : Checked) → 66 ≤ k → out ≡ refused_of rows count names 0 false → out ≡ checked_rows rows count names
-      root_unknown out m o = refused false out (unknown_refused rows count names 0 k i m) o
+      pub root_unknown : (out : Checked) → 66 ≤ k → out ≡ refused_of rows count names 0 WrongEnd → out ≡ checked_rows rows count names
+      root_unknown out m o = refused WrongEnd out (unknown_refused rows count names 0 k i m) o
 
       pub root_read : (entries : List Kind) (d : Kind) → k < 66 → entries ≡ map numbers kinds → RowRead rows 0 (get_or entries k d)
       root_read entries d m t = read_row rows names 0 k i entries d root_room m t
 
-    module _ (numbers : Kind) (end : ℕ) (q : RowTold rows names 0 numbers count count end) where
-      pub root_wrong : (out : Checked) → end ≡ 0 → out ≡ refused_of rows count names 0 false → out ≡ checked_rows rows count names
-      root_wrong out z o = refused false out (row_wrong rows count names 0 numbers count count 0 (root_bounds rows count root_held.some) end q z) o
+    module _ (numbers : Kind) (r : Bool) (q : RowTold rows names 0 numbers count count r) where
+      pub root_wrong : (out : Checked) → not r ≡ true → out ≡ refused_of rows count names 0 WrongEnd → out ≡ checked_rows rows count names
+      root_wrong out z o = refused WrongEnd out (row_wrong rows count names 0 numbers count count 0 (root_bounds rows count) r q (not-true r z)) o
 
-      pub root_started : (k start : ℕ) → k ≡ kind_at rows 0 → (end ≡ 0 → ⊥) → start ≡ root_found count k → Started rows count names numbers.children start
+      pub root_started : (k start : ℕ) → k ≡ kind_at rows 0 → not r ≡ false → start ≡ root_found count k → Started rows count names numbers.children start
       root_started k start i z o = record {
         held = root_held;
-        right = row_right rows count names 0 numbers count count 0 (root_bounds rows count root_held.some) end q z (omega arith);
+        right = row_right rows count names 0 numbers count count 0 (root_bounds rows count) r q (not-false r z) (omega arith);
         children = q.read.children;
         begin = rw (← i) o;
       }

@@ -6,7 +6,6 @@ use Rattle.kinds.specs.Kinds.{S, entry, in_class, side_fits}
 use Rattle.kinds.specs.Steps.{items_number, side_below}
 use Rattle.kinds.proofs.Steps.{Left}
 use Rattle.refusals.specs.declared.Refusal.{Refusal}
-use Rattle.refusals.specs.declared.Refusal.TheVariants.{WrongEnd, TooDeep}
 use Rattle.checks.specs.Checks.{Checked}
 use Rattle.refusals.specs.Refusals.{refused_at}
 use Rattle.checks.specs.Checks.{passed}
@@ -83,26 +82,18 @@ pub record RowRead (rows : List ℕ) (row : ℕ) (numbers : Kind) : Type 0 where
   pub sides : (names side : ℕ) → side_below numbers.sides names side ≡ side_fits (entry (kind_at rows row)).sides names side
   pub children : numbers.children ≡ items_number (entry (kind_at rows row)).children
 
--- what `right_end` answers of a row whose end may be from `least` to `most`
-unfoldable pub end_or_zero : List ℕ → ℕ → Kind → ℕ → ℕ → ℕ → ℕ
-end_or_zero rows names numbers row least most =
-    cond (leb least (end_at rows row) && leb (end_at rows row) most)
-    (cond (side_below numbers.sides names (side_at rows row)) (end_at rows row) 0)
-    0
+-- what `end_right` answers of a row whose end may be from `least` to `most`
+unfoldable pub end_right : List ℕ → ℕ → Kind → ℕ → ℕ → ℕ → Bool
+end_right rows names numbers row least most = (leb least (end_at rows row) && leb (end_at rows row) most) && side_below numbers.sides names (side_at rows row)
 
 -- what it tells: of which row, and the answer
-pub record RowTold (rows : List ℕ) (names row : ℕ) (numbers : Kind) (least most r : ℕ) : Type 0 where
+pub record RowTold (rows : List ℕ) (names row : ℕ) (numbers : Kind) (least most : ℕ) (r : Bool) : Type 0 where
   pub read : RowRead rows row numbers
-  pub answer : r ≡ end_or_zero rows names numbers row least most
+  pub answer : r ≡ end_right rows names numbers row least most
 
--- why a row is refused where all fields are right: for its depth, or for its end
-abbrev pub end_refusal : Bool → Refusal
-end_refusal true = TooDeep
-end_refusal false = WrongEnd
-
--- what `refuse` tells of a row that is wrong by itself: the first wrong field from it on, and where there is none the row
-unfoldable pub refused_of : List ℕ → ℕ → ℕ → ℕ → Bool → Checked
-refused_of rows count names row deep = and_then (first_from (fields_at rows names) (count - row) row) (refused_at (end_refusal deep) row)
+-- what `refuse` tells of a row that is wrong by itself: the first wrong field from it on, and where there is none the row's end or depth
+unfoldable pub refused_of : List ℕ → ℕ → ℕ → ℕ → Refusal → Checked
+refused_of rows count names row end_or_depth = and_then (first_from (fields_at rows names) (count - row) row) (refused_at end_or_depth row)
 
 -- the first row found before any is looked at: none, which is the count, or row 0 if its kind is no statement's
 unfoldable pub root_found : ℕ → ℕ → ℕ

@@ -143,29 +143,14 @@ fn enter(
     place(ends, left, own, d, row, end, items, first)
 }
 
-// The end of a row, where that may be from `least` to `most`; 0, which is no row's end, if it is not or the side number is wrong.
-fn right_end(
-    rows: &[u32],
-    names: usize,
-    row: usize,
-    entry: Kind,
-    least: usize,
-    most: usize,
-) -> usize
+// Whether a row's end, which may be from `least` to `most`, and its side number are right.
+#[tactic(auto, unfolding(crate::specs::Steps::end_right))]
+fn end_right(rows: &[u32], names: usize, row: usize, entry: Kind, least: usize, most: usize) -> bool
     requires { RowRead rows.now row entry }
     ensures { RowTold rows.now names row entry least most result }
 {
-    let end = table::end_at(rows, row);
-    if end < least {
-        return 0;
-    }
-    if most < end {
-        return 0;
-    }
-    if !kinds::side_fits(entry, table::side_at(rows, row), names) {
-        return 0;
-    }
-    end
+    (least..=most).contains(&table::end_at(rows, row))
+        && kinds::side_fits(entry, table::side_at(rows, row), names)
 }
 
 // The kind and the side number of row i.
@@ -189,20 +174,21 @@ fn check_fields(rows: &[u32], names: usize, i: usize) -> Result<(), Refused>
     Ok(())
 }
 
-// A row is wrong by itself, `deep` for its depth alone. Fields come before ends and depth: it is told for its end or depth only where no
-// row from it on has a wrong kind or side number.
-fn refuse(rows: &[u32], count: usize, names: usize, row: usize, deep: bool) -> Result<(), Refused>
+// A row is wrong by itself, `refusal` for its end or depth. Fields come before these: it is told for that only where no row from it on has a
+// wrong kind or side number.
+fn refuse(
+    rows: &[u32],
+    count: usize,
+    names: usize,
+    row: usize,
+    refusal: Refusal,
+) -> Result<(), Refused>
     requires { Held rows.now count }
-    ensures { result ≡ refused_of rows.now count names row deep }
+    ensures { result ≡ refused_of rows.now count names row refusal }
 {
     for i in row..count {
         check_fields(rows, names, i)?;
     }
-    let refusal = if deep {
-        Refusal::TooDeep
-    } else {
-        Refusal::WrongEnd
-    };
     Err(Refused {
         refusal,
         place: row,
@@ -228,17 +214,17 @@ fn check_rest(
     while 0 < at.depth {
         let kind = table::kind_at(rows, row);
         if 66 <= kind {
-            return refuse(rows, count, names, row, false);
+            return refuse(rows, count, names, row, Refusal::WrongEnd);
         }
         let entry = entries[kind];
         let d = at.depth;
-        let end = right_end(rows, names, row, entry, row + 1, ends[d - 1]);
-        if end == 0 {
-            return refuse(rows, count, names, row, false);
+        if !end_right(rows, names, row, entry, row + 1, ends[d - 1]) {
+            return refuse(rows, count, names, row, Refusal::WrongEnd);
         }
         if 100 <= d {
-            return refuse(rows, count, names, row, true);
+            return refuse(rows, count, names, row, Refusal::TooDeep);
         }
+        let end = table::end_at(rows, row);
         at = enter(ends, left, own, at, row, kind, end, entry.children);
         row += 1;
     }
@@ -296,11 +282,11 @@ pub fn check(rows: &[u32], count: usize, names: usize) -> Result<(), Refused>
     let entries = kinds::kinds();
     let kind = table::kind_at(rows, 0);
     if 66 <= kind {
-        return refuse(rows, count, names, 0, false);
+        return refuse(rows, count, names, 0, Refusal::WrongEnd);
     }
     let entry = entries[kind];
-    if right_end(rows, names, 0, entry, count, count) == 0 {
-        return refuse(rows, count, names, 0, false);
+    if !end_right(rows, names, 0, entry, count, count) {
+        return refuse(rows, count, names, 0, Refusal::WrongEnd);
     }
     check_from_root(
         rows,

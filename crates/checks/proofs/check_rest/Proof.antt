@@ -36,6 +36,7 @@ check_rest_spec =
     (λ c. search walking)
     (λ c κs. search rules)
     (λ c. search rules)
+    (λ c. search rules)
     (λ c. search walking)
     (λ c. search (walking, c.enter-at.ensures))
     (λ c. search walking)

@@ -10,8 +10,5 @@ returns-in_err-check_fields c =
 pub loop-i-preserved : goal.loop-i-preserved
 loop-i-preserved c = search (refusing, c.in_ok-check_fields.was)
 
-pub returns-then-deep : goal.returns-then-deep
-returns-then-deep c = search refusing
-
-pub returns-else-deep : goal.returns-else-deep
-returns-else-deep c = search refusing
+pub returns : goal.returns
+returns c = search refusing
