@@ -187,7 +187,8 @@ fn da_eventctrl(row: Node, local: usize, assigned: bool) -> DaResult
 }
 
 // How da_stmt goes on at a row: the local stays written, it walks no statement, or first asks and then walks the body, or walks as the
-// construct does.
+// construct does. It stands apart from the match in da_walk, since construct_at goes by it, and a cycle of calls can hand out no closure
+// for each arm.
 #[derive(Clone, Copy)]
 pub enum Construct {
     StaysWritten,

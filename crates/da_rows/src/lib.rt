@@ -142,7 +142,7 @@ pub fn refers_unwritten(rows: Siblings, local: usize, assigned: bool) -> bool
     !assigned && !reads::no_ref(rows, local)
 }
 
-// What a row is to the statement that holds it.
+// What a row is to the statement that holds it: what is_default, is_absent and unless_label_read ask of its class.
 #[derive(Clone, Copy)]
 pub enum Part {
     Match,
@@ -225,10 +225,7 @@ fn falls_written(out: DaOut) -> bool
 fn loop_body_assigns(row: Node, body: Siblings, out: DaOut) -> bool
     ensures { result ≡ body_assigns (side_at row.entry.table.now row.entry.at) (forest body.entry) out }
 {
-    if !falls_written(out) {
-        return false;
-    }
-    row.side() == 1 && loops::stmt_cannot_escape(body.head())
+    falls_written(out) && row.side() == 1 && loops::stmt_cannot_escape(body.head())
 }
 
 // Whether the local is written after the rounds of a loop. Where it is so after the condition, the body is not looked at.

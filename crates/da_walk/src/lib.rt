@@ -42,7 +42,8 @@ fn da_inner(ctx: &Context, rows: Siblings, assigned: bool) -> DaResult
 }
 
 // Whether the first of these rows need not be walked, since the local is written and stays so: a statement that does nothing but fall, or a
-// timing control of such a one or of none. A no says nothing.
+// timing control of such a one or of none. A no says nothing. Each no stands by itself: one expression would need a match or a closure for
+// each row that may not be there.
 fn passes_over(rows: Siblings, assigned: bool) -> bool
     ensures { PassedOver (forest rows.entry) assigned result }
 {
@@ -188,6 +189,7 @@ fn da_for(ctx: &Context, row: Node, assigned: bool) -> DaResult
     Ok(DaOut::Falls(da_rows::rounds_write(row, body, body_out, states.after)))
 }
 
+// A while. It and a repeat are two rules, while_at and repeat_at, which differ in the state of a round: one function would need a flag.
 #[cycle(walk)]
 fn da_while(ctx: &Context, row: Node, assigned: bool) -> DaResult
     ensures { result ≡ while_at (untimed ctx.now) row.entry.table.now row.entry.at row.entry.end assigned }

@@ -32,6 +32,7 @@ pub fn stmt_cannot_escape(rows: Siblings) -> bool
 }
 
 // Whether row i itself lets time pass, a task by whether it suspends.
+// Kinds go by number here: StmtClass has no name for delay, intra and waitfork.
 #[tactic(auto, using(crate::proofs::Answers::time_numbers))]
 fn lets_time_pass(rows: &[u32], i: usize) -> bool
     requires { 5 * i + 4 < length rows.now }

@@ -32,7 +32,7 @@ use Rattle.reads.specs.PathRows.{is_named, begins, count, segments}
 use Rattle.reads.specs.Mentions.{role_of, mentions_by, mentions_at, skips_iff, mention_in}
 use Rattle.reads.specs.Steps.{AfterQuiet}
 use Rattle.reads.specs.NoRef.{expr_no_ref, two_segments, not_vetted, vetting, vetted, stmt_no_ref}
-use Rattle.reads.proofs.Scan.{or_else, mention_none, mention_here, mention_row, mention_event, found_refers, nowhere_refers, next_nested}
+use Rattle.reads.proofs.Scan.{or_else, mention_none, mention_here, mention_row, mention_event, found_refers, nowhere_refers}
 use Rattle.reads.proofs.Quiet.{quiet_same}
 
 -- begins_with
@@ -184,17 +184,17 @@ segments_some rows below path f c = rw (forest_some f c) (omega arith)
 
 pub ruleset segments_answers = (segments_none, count_done, count_step, segments_some)
 
--- task_no_ref
-module _ (x : ℕ) (f : Forest) (n : ℕ) (e : n ≡ segments f) where
-  pub task_other : (n ≡ 2 → ⊥) → false ≡ vetted two_segments x f
-  task_other h = rw (← e, ne_eqb n 2 h)
+-- task_no_ref, where v says that the path has two segments and does not begin with the local
+module _ (x : ℕ) (f : Forest) (n : ℕ) (e : n ≡ segments f) (v : Bool) where
+  pub task_other : (n ≡ 2 → ⊥) → v ≡ false → v ≡ vetted two_segments x f
+  task_other h y = y ∙ rw (← e, ne_eqb n 2 h)
 
-  module _ (b : Bool) (h : n ≡ 2) (v : b ≡ begins x f) where
-    pub task_begins : b ≡ true → not b ≡ vetted two_segments x f
-    task_begins t = rw (← e, h, ← v, t)
+  module _ (b : Bool) (h : n ≡ 2) (g : b ≡ begins x f) (y : v ≡ not b) where
+    pub task_begins : v ≡ false → v ≡ vetted two_segments x f
+    task_begins t = t ∙ rw (← e, h, ← g, sym y ∙ t)
 
-    pub task_arguments : (r : Bool) → b ≡ false → r ≡ expr_no_ref x f → r ≡ vetted two_segments x f
-    task_arguments r t q = rw (← e, h, ← v, t) q
+    pub task_arguments : (r : Bool) → v ≡ true → r ≡ expr_no_ref x f → r ≡ vetted two_segments x f
+    task_arguments r t q = rw (← e, h, ← g, sym y ∙ t) q
 
 pub ruleset task_answers = (task_other, task_begins, task_arguments)
 

@@ -207,10 +207,8 @@ pub fn segments(rows: Siblings) -> usize
 fn task_no_ref(rows: Siblings, local: usize) -> bool
     ensures { result ≡ vetted two_segments local (forest rows.entry) }
 {
-    if segments(rows) != 2 {
-        return false;
-    }
-    !begins_with(rows, local) && no_ref(rows, local)
+    let is_pair = segments(rows) == 2;
+    is_pair && !begins_with(rows, local) && no_ref(rows, local)
 }
 
 // stmt_no_ref, of the first of these rows: a null statement, an assignment or a system task by all that it holds, a task. No other form

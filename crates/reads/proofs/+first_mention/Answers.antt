@@ -1,4 +1,3 @@
-use Rattle.std.proofs.Common.{rules}
 use Rattle.reads.proofs.Scan.{mention_told}
 use Rattle.reads.proofs.Answers.{kept_start, kept_next, kept_rest, quiet_part, scan_answers, row_miss, event_miss}
 use Rattle.reads.proofs.+first_mention.Goals as goal

@@ -1,4 +1,4 @@
-use Rattle.std.proofs.Common.{rules, arith}
+use Rattle.std.proofs.Common.{arith}
 use Rattle.table.proofs.Parts.{rest_after, some_left, none_left}
 use Rattle.reads.proofs.Answers.{segments_none, segments_some, count_done, count_step}
 use Rattle.reads.proofs.segments.Goals as goal
