@@ -185,11 +185,11 @@ module _ (items : ℕ) where
     unfolding takes_first
     taken_none h z = rw (← e, h, eq-eqb k 0 z, and-true (leb 128 (items % 256)), or-false (leb 128 (items % 256)))
 
-  pub repeats_told : (r : Bool) → r ≡ repeats_first items → (r ≡ repeats_first items) × ((i : Item) (others : List Item) → items ≡ items_number (i ∷ others) → r ≡ i.may_repeat)
-  repeats_told r q = (q, λ i others e. q ∙ rw e (repeats_first_lem i others))
+  pub repeats_told : (r : Bool) → r ≡ repeats_first items → (i : Item) (others : List Item) → items ≡ items_number (i ∷ others) → r ≡ i.may_repeat
+  repeats_told r q i others e = q ∙ rw e (repeats_first_lem i others)
 
-  pub rest_told : (r : ℕ) → r ≡ rest_first items → (r ≡ rest_first items) × ((i : Item) (others : List Item) → items ≡ items_number (i ∷ others) → r ≡ items_number others)
-  rest_told r q = (q, λ i others e. q ∙ rw e (rest_number i others))
+  pub rest_told : (r : ℕ) → r ≡ rest_first items → (i : Item) (others : List Item) → items ≡ items_number (i ∷ others) → r ≡ items_number others
+  rest_told r q i others e = q ∙ rw e (rest_number i others)
 
 pub ruleset taking = (taken_of, taken_not, taken_none)
 

@@ -538,6 +538,7 @@ pub fn takes_first(items: Items, kind: usize) -> bool
 }
 
 // Whether it may stand any number of times.
+#[tactic(auto, using(crate::proofs::Numbers::repeats_told), unfolding(crate::specs::Steps::repeats_first))]
 pub fn repeats_first(items: Items) -> bool
     ensures value { result ≡ repeats_first items }
     ensures means { (i : Item) (others : List Item) → items ≡ items_number (i ∷ others) → result ≡ i.may_repeat }
@@ -546,6 +547,7 @@ pub fn repeats_first(items: Items) -> bool
 }
 
 // The items after the first.
+#[tactic(auto, using(crate::proofs::Numbers::rest_told), unfolding(crate::specs::Steps::rest_first))]
 pub fn rest_first(items: Items) -> Items
     ensures value { result ≡ rest_first items }
     ensures means { (i : Item) (others : List Item) → items ≡ items_number (i ∷ others) → result ≡ items_number others }

@@ -1,10 +1,9 @@
 -- The laws of a table's parts: what a part spells, from how it stands to another.
-use mathlib.Core.Path.{◌≡◌, refl, sym, ap, ◌∙◌}
+use mathlib.Core.Path.{◌≡◌, sym, ap, ◌∙◌}
 use Prim.Native.Nat.{ℕ, suc, ◌+◌, ◌≤◌, ◌<◌}
 use Rattle.table.specs.declared.Siblings.{Siblings}
 use Rattle.table.specs.declared.Node.{Node}
-use Rattle.table.specs.Rows.{kind_at, side_at, lo_at, hi_at, end_at, Forest, nil, node, tree, Nested, rest}
-use Rattle.table.specs.Steps.{next_of}
+use Rattle.table.specs.Rows.{kind_at, side_at, lo_at, hi_at, end_at, Forest, nil, node, tree, rest}
 use Rattle.table.specs.Siblings.{forest, First, Children, Rest, Head}
 use Rattle.table.specs.Fold.{Alg, fold, nth, tail}
 use Rattle.table.proofs.Fold.{fold_step, fold_first, fold_next, fold_tail}
