@@ -24,8 +24,6 @@ use Rattle.loops.specs.Escape.{cannot_escape_at}
 use Rattle.loops.specs.Time.{waiting_words, is_one_of, lets_time_pass, advances_at}
 use Rattle.da.specs.declared.DaOut.TheVariants.{Falls, Jumps}
 use Rattle.std.specs.Prelude.{Ok, Err}
-use Rattle.da.specs.declared.Reason.{Reason}
-use Rattle.da.specs.declared.Reason.TheVariants.{SharedNet, ReadUnwritten, EventReads, PartWritten, Forks, TaskReads, TaskUnknown, ControlReads, NotModelled}
 use Rattle.da.specs.Outcome.{DaResult, State, unwritten, written}
 use Rattle.da.specs.Walk.{da_ctx, held_facts_at, walk_at, da_stmt}
 
@@ -110,7 +108,7 @@ falls0 = Ok (Falls unwritten)
 abbrev jumps : DaResult
 jumps = Ok Jumps
 
-abbrev gives : Reason → ℕ → DaResult
+abbrev gives : ℕ → ℕ → DaResult
 gives reason n = Err (record { reason = reason; lo = n; hi = n + 100 })
 
 -- the worked statements, by their numbers
@@ -119,9 +117,9 @@ worked =
     -- 1 `x=1;` falls 1
     plainly writes falls1 ∷
     -- 2 `y = x;` reason 2
-    plainly reads (gives ReadUnwritten 6) ∷
+    plainly reads (gives 2 6) ∷
     -- 3 `x[0]=1;` 4
-    plainly (assign (row "lbit" 0 (to_x ∷ lit ∷ [])) lit) (gives PartWritten 0) ∷
+    plainly (assign (row "lbit" 0 (to_x ∷ lit ∷ [])) lit) (gives 4 0) ∷
     -- 4 `if(c) x=1;` falls 0
     plainly (if C writes) falls0 ∷
     -- 5 `if(c) x=1; else return;` falls 1
@@ -135,17 +133,17 @@ worked =
     -- 9 `if(c && w(x)) y=x;` falls 0
     plainly (if (and! C W) reads) falls0 ∷
     -- 10 the same with ||: 2
-    plainly (if (or! C W) reads) (gives ReadUnwritten 17) ∷
+    plainly (if (or! C W) reads) (gives 2 17) ∷
     -- 11 `fork y=1; join` 5
-    plainly (fork (set_y ∷ [])) (gives Forks 0) ∷
+    plainly (fork (set_y ∷ [])) (gives 5 0) ∷
     -- 12 start 1: falls 1
     start1 (fork (set_y ∷ [])) falls1 ∷
     -- 13 `while(c) x=1;` side 1: falls 1, side 0: falls 0
     plainly (while 1 C writes) falls1 ∷
     plainly (while 0 C writes) falls0 ∷
     -- 14 sole 0, `#1 x=1;` 1
-    sole0 (timed (delay (lit ∷ [])) absent to_x lit) (gives SharedNet 0) ∷
-    sole0 (delayed (delay (lit ∷ [])) writes) (gives SharedNet 0) ∷
+    sole0 (timed (delay (lit ∷ [])) absent to_x lit) (gives 1 0) ∷
+    sole0 (delayed (delay (lit ∷ [])) writes) (gives 1 0) ∷
     []
 
 -- the traps
@@ -170,12 +168,12 @@ traps =
     plainly (if_else (or! C W) writes null) falls1 ∷
     plainly (if_else (or! C W) writes reads) falls1 ∷
     -- "Step walked from the body's result: it starts where the body starts"
-    plainly (for 1 null C reads writes) (gives ReadUnwritten 11) ∷
+    plainly (for 1 null C reads writes) (gives 2 11) ∷
     plainly (for 1 null (and! C W) reads reads) falls1 ∷
     plainly (for 1 null C writes set_y) falls0 ∷
     -- "A fork that names nothing let through unwritten"
-    plainly (fork []) (gives Forks 0) ∷
-    plainly (block (fork [] ∷ writes ∷ [])) (gives Forks 1) ∷
+    plainly (fork []) (gives 5 0) ∷
+    plainly (block (fork [] ∷ writes ∷ [])) (gives 5 1) ∷
     []
 
 -- S::Blocking
@@ -183,65 +181,65 @@ abbrev assignments : List Case
 assignments =
     plainly (assign to_x W) falls1 ∷
     plainly (assign to_y W) falls1 ∷
-    plainly (assign to_x X) (gives ReadUnwritten 6) ∷
-    plainly (assign to_x (plus C X)) (gives ReadUnwritten 6) ∷
-    plainly (assign to_y (paren X)) (gives ReadUnwritten 6) ∷
+    plainly (assign to_x X) (gives 2 6) ∷
+    plainly (assign to_x (plus C X)) (gives 2 6) ∷
+    plainly (assign to_y (paren X)) (gives 2 6) ∷
     -- "this assignment writes only PART of it": `x.y=1;`, `y[x]=w(x);`, `y = c && w(x);`, `y = #(w(x)) 1;`
-    plainly (assign (lident (x ∷ y ∷ [])) lit) (gives PartWritten 0) ∷
-    plainly (assign (row "lbit" 0 (to_y ∷ X ∷ [])) W) (gives PartWritten 0) ∷
-    plainly (assign to_y (and! C W)) (gives PartWritten 0) ∷
-    plainly (timed (delay (W ∷ [])) absent to_y lit) (gives PartWritten 0) ∷
+    plainly (assign (lident (x ∷ y ∷ [])) lit) (gives 4 0) ∷
+    plainly (assign (row "lbit" 0 (to_y ∷ X ∷ [])) W) (gives 4 0) ∷
+    plainly (assign to_y (and! C W)) (gives 4 0) ∷
+    plainly (timed (delay (W ∷ [])) absent to_y lit) (gives 4 0) ∷
     start1 (assign (lident (x ∷ y ∷ [])) X) falls1 ∷
     -- a statement "with no reference": `y = w();`, though the call writes; a condition counts it
     plainly (assign to_y (call_row 1 (w ∷ []) [])) falls0 ∷
     plainly (if (call_row 1 (w ∷ []) []) reads) falls1 ∷
     -- a delay, then an event, "evaluated before the write"; an iff is not looked at
-    plainly (timed (delay (lit ∷ X ∷ [])) (upon X absent) to_x X) (gives ReadUnwritten 3) ∷
-    plainly (timed absent (upon X absent) to_x X) (gives EventReads 0) ∷
+    plainly (timed (delay (lit ∷ X ∷ [])) (upon X absent) to_x X) (gives 2 3) ∷
+    plainly (timed absent (upon X absent) to_x X) (gives 3 0) ∷
     plainly (timed absent (upon C X) to_x lit) falls1 ∷
     plainly (timed absent (upon C X) to_y lit) falls0 ∷
     start1 (timed (delay (X ∷ [])) (upon X absent) to_x X) falls1 ∷
     -- "which can only add a give-up, as in `y = #(x) w();`"; of several values that read, the first
-    plainly (timed (delay (X ∷ [])) absent to_y (call_row 1 (w ∷ []) [])) (gives ReadUnwritten 2) ∷
-    plainly (timed (delay (X ∷ X ∷ [])) absent to_x lit) (gives ReadUnwritten 2) ∷
+    plainly (timed (delay (X ∷ [])) absent to_y (call_row 1 (w ∷ []) [])) (gives 2 2) ∷
+    plainly (timed (delay (X ∷ X ∷ [])) absent to_x lit) (gives 2 2) ∷
     []
 
 -- S::NonBlocking
 abbrev nonblockings : List Case
 nonblockings =
     plainly (assign_later to_x lit) falls0 ∷
-    plainly (assign_later to_y X) (gives ReadUnwritten 6) ∷
+    plainly (assign_later to_y X) (gives 2 6) ∷
     plainly (assign_later to_y W) falls1 ∷
     -- `x <= 1; y = x;`
-    plainly (block (assign_later to_x lit ∷ reads ∷ [])) (gives ReadUnwritten 14) ∷
+    plainly (block (assign_later to_x lit ∷ reads ∷ [])) (gives 2 14) ∷
     -- "on a SHARED net another block scheduled in between sees it", once written too; unless it refers to nothing
-    sole0 (assign_later to_x lit) (gives SharedNet 0) ∷
-    from written false (assign_later to_x lit) (gives SharedNet 0) ∷
+    sole0 (assign_later to_x lit) (gives 1 0) ∷
+    from written false (assign_later to_x lit) (gives 1 0) ∷
     sole0 (assign_later to_y lit) falls0 ∷
     -- before its right side is looked at
-    sole0 (assign_later to_y X) (gives SharedNet 0) ∷
+    sole0 (assign_later to_y X) (gives 1 0) ∷
     []
 
 -- conditions, and what is known in the arms
 abbrev conditions : List Case
 conditions =
-    plainly (if X writes) (gives ReadUnwritten 1) ∷
-    plainly (if (plus C X) writes) (gives ReadUnwritten 1) ∷
+    plainly (if X writes) (gives 2 1) ∷
+    plainly (if (plus C X) writes) (gives 2 1) ∷
     plainly (if W reads) falls1 ∷
     plainly (if_else (or! C W) null reads) falls0 ∷
-    plainly (if_else C writes reads) (gives ReadUnwritten 17) ∷
-    plainly (if_else C reads reads) (gives ReadUnwritten 10) ∷
-    plainly (case_of X (default writes ∷ [])) (gives ReadUnwritten 1) ∷
+    plainly (if_else C writes reads) (gives 2 17) ∷
+    plainly (if_else C reads reads) (gives 2 10) ∷
+    plainly (case_of X (default writes ∷ [])) (gives 2 1) ∷
     plainly (case_of W (match reads (X ∷ []) ∷ [])) falls1 ∷
     -- the scrutinee writes: falls 1 even if every arm returns
     plainly (case_of W (default return ∷ [])) falls1 ∷
     -- labels come before their arm
-    plainly (case_of C (match writes (lit ∷ X ∷ []) ∷ [])) (gives ReadUnwritten 13) ∷
-    plainly (case_of C (match reads (X ∷ []) ∷ [])) (gives ReadUnwritten 14) ∷
-    plainly (case_of C (match writes (W ∷ []) ∷ default reads ∷ [])) (gives ReadUnwritten 25) ∷
-    plainly (case_of C (match writes (X ∷ X ∷ []) ∷ [])) (gives ReadUnwritten 12) ∷
+    plainly (case_of C (match writes (lit ∷ X ∷ []) ∷ [])) (gives 2 13) ∷
+    plainly (case_of C (match reads (X ∷ []) ∷ [])) (gives 2 14) ∷
+    plainly (case_of C (match writes (W ∷ []) ∷ default reads ∷ [])) (gives 2 25) ∷
+    plainly (case_of C (match writes (X ∷ X ∷ []) ∷ [])) (gives 2 12) ∷
     -- an arm comes before the labels of the next
-    plainly (case_of C (match reads (lit ∷ []) ∷ match writes (X ∷ []) ∷ [])) (gives ReadUnwritten 11) ∷
+    plainly (case_of C (match reads (lit ∷ []) ∷ match writes (X ∷ []) ∷ [])) (gives 2 11) ∷
     []
 
 -- the four loops around a body, with this side
@@ -265,18 +263,18 @@ bodies =
 
 abbrev rounds : List Case
 rounds =
-    plainly (for 0 null X null writes) (gives ReadUnwritten 2) ∷
-    plainly (while 0 X writes) (gives ReadUnwritten 1) ∷
-    plainly (repeat 0 X writes) (gives ReadUnwritten 1) ∷
+    plainly (for 0 null X null writes) (gives 2 2) ∷
+    plainly (while 0 X writes) (gives 2 1) ∷
+    plainly (repeat 0 X writes) (gives 2 1) ∷
     plainly (while 0 W reads) falls1 ∷
     plainly (while 0 (and! C W) reads) falls0 ∷
     plainly (repeat 0 W reads) falls1 ∷
     -- a count is no truth
-    plainly (repeat 0 (and! C W) reads) (gives ReadUnwritten 17) ∷
+    plainly (repeat 0 (and! C W) reads) (gives 2 17) ∷
     plainly (for 0 writes C reads reads) falls1 ∷
-    plainly (for 0 reads C null writes) (gives ReadUnwritten 7) ∷
+    plainly (for 0 reads C null writes) (gives 2 7) ∷
     -- the body comes before the step, which stands before it in row order
-    plainly (for 0 null C reads reads) (gives ReadUnwritten 20) ∷
+    plainly (for 0 null C reads reads) (gives 2 20) ∷
     -- a step may transfer control: `stmt_cannot_escape(body)` asks of the body alone
     plainly (for 1 null C return writes) falls1 ∷
     -- an init that jumps counts as written for the rest
@@ -287,17 +285,17 @@ rounds =
 abbrev blocks : List Case
 blocks =
     plainly (block (writes ∷ reads ∷ [])) falls1 ∷
-    plainly (block (set_y ∷ reads ∷ [])) (gives ReadUnwritten 14) ∷
+    plainly (block (set_y ∷ reads ∷ [])) (gives 2 14) ∷
     plainly (block []) falls0 ∷
     -- "the rest of this block is UNREACHABLE"
     plainly (block (return ∷ reads ∷ [])) jumps ∷
     plainly (block (break ∷ reads ∷ [])) jumps ∷
     -- an initialiser that reads, and one that writes, which is not counted
-    plainly (block (decl y X ∷ writes ∷ [])) (gives ReadUnwritten 2) ∷
+    plainly (block (decl y X ∷ writes ∷ [])) (gives 2 2) ∷
     plainly (block (decl y absent ∷ decl y lit ∷ writes ∷ [])) falls1 ∷
-    plainly (block (decl y W ∷ reads ∷ [])) (gives ReadUnwritten 14) ∷
+    plainly (block (decl y W ∷ reads ∷ [])) (gives 2 14) ∷
     -- a return by its value
-    plainly (returns X) (gives ReadUnwritten 1) ∷
+    plainly (returns X) (gives 2 1) ∷
     plainly (returns W) jumps ∷
     start1 (returns X) jumps ∷
     -- a loop jump is of one segment, which is marked
@@ -314,22 +312,22 @@ tasks =
     plainly (task (w ∷ []) (X ∷ []) 4) falls0 ∷
     plainly (task (w ∷ []) (X ∷ []) 1) falls1 ∷
     plainly (task (w ∷ []) (X ∷ []) 5) falls1 ∷
-    plainly (task (w ∷ []) (X ∷ []) 2) (gives TaskReads 0) ∷
-    plainly (task (w ∷ []) (X ∷ []) 6) (gives TaskReads 0) ∷
-    plainly (task (w ∷ []) (X ∷ []) 3) (gives TaskUnknown 0) ∷
-    plainly (task (w ∷ []) (X ∷ []) 7) (gives TaskUnknown 0) ∷
+    plainly (task (w ∷ []) (X ∷ []) 2) (gives 6 0) ∷
+    plainly (task (w ∷ []) (X ∷ []) 6) (gives 6 0) ∷
+    plainly (task (w ∷ []) (X ∷ []) 3) (gives 7 0) ∷
+    plainly (task (w ∷ []) (X ∷ []) 7) (gives 7 0) ∷
     start1 (task (w ∷ []) (X ∷ []) 2) falls1 ∷
     start1 (task (w ∷ []) (X ∷ []) 7) falls1 ∷
-    sole0 (task (w ∷ []) (X ∷ []) 3) (gives TaskUnknown 0) ∷
-    sole0 (task (w ∷ []) (X ∷ []) 5) (gives SharedNet 0) ∷
+    sole0 (task (w ∷ []) (X ∷ []) 3) (gives 7 0) ∷
+    sole0 (task (w ∷ []) (X ∷ []) 5) (gives 1 0) ∷
     -- "a two-segment task path with no mention, arguments included, does nothing at any effect"
     plainly (task (y ∷ w ∷ []) (C ∷ []) 3) falls0 ∷
     plainly (task (y ∷ x ∷ []) [] 3) falls0 ∷
-    plainly (task (y ∷ w ∷ []) (X ∷ []) 3) (gives TaskUnknown 0) ∷
-    plainly (task (x ∷ w ∷ []) [] 3) (gives TaskUnknown 0) ∷
-    plainly (task (y ∷ []) [] 3) (gives TaskUnknown 0) ∷
-    plainly (task (y ∷ w ∷ w ∷ []) [] 3) (gives TaskUnknown 0) ∷
-    plainly (task [] [] 3) (gives TaskUnknown 0) ∷
+    plainly (task (y ∷ w ∷ []) (X ∷ []) 3) (gives 7 0) ∷
+    plainly (task (x ∷ w ∷ []) [] 3) (gives 7 0) ∷
+    plainly (task (y ∷ []) [] 3) (gives 7 0) ∷
+    plainly (task (y ∷ w ∷ w ∷ []) [] 3) (gives 7 0) ∷
+    plainly (task [] [] 3) (gives 7 0) ∷
     []
 
 -- delays, events and waits around a statement; "No WRITE is claimed from them"
@@ -337,18 +335,18 @@ abbrev timings : List Case
 timings =
     plainly (delayed (delay (lit ∷ [])) writes) falls1 ∷
     plainly (delayed (delay (lit ∷ [])) absent) falls0 ∷
-    plainly (delayed (delay (C ∷ X ∷ [])) writes) (gives ReadUnwritten 5) ∷
-    plainly (delayed (delay (W ∷ [])) reads) (gives ReadUnwritten 14) ∷
+    plainly (delayed (delay (C ∷ X ∷ [])) writes) (gives 2 5) ∷
+    plainly (delayed (delay (W ∷ [])) reads) (gives 2 14) ∷
     plainly (awaits (row "star" 0 []) writes) falls1 ∷
     plainly (awaits (at C absent) absent) falls0 ∷
     plainly (awaits (at C X) absent) falls0 ∷
-    plainly (awaits (at X absent) writes) (gives ControlReads 0) ∷
+    plainly (awaits (at X absent) writes) (gives 8 0) ∷
     start1 (awaits (at X absent) reads) falls1 ∷
     plainly (wait C writes) falls1 ∷
     plainly (wait C absent) falls0 ∷
-    plainly (wait X writes) (gives ReadUnwritten 1) ∷
-    plainly (wait (plus C X) writes) (gives ReadUnwritten 1) ∷
-    plainly (wait W reads) (gives ReadUnwritten 13) ∷
+    plainly (wait X writes) (gives 2 1) ∷
+    plainly (wait (plus C X) writes) (gives 2 1) ∷
+    plainly (wait W reads) (gives 2 13) ∷
     -- a body that jumps
     plainly (delayed (delay (lit ∷ [])) return) jumps ∷
     plainly (awaits (at C absent) return) jumps ∷
@@ -363,7 +361,7 @@ unmodelled =
 
 abbrev others : List Case
 others =
-    each unmodelled (gives NotModelled 0) plainly
+    each unmodelled (gives 9 0) plainly
     ++ each unmodelled falls1 start1
     ++ plainly (systask (C ∷ [])) falls0 ∷ plainly null falls0 ∷ start1 null falls1 ∷ []
 
@@ -371,19 +369,19 @@ others =
 abbrev times : List Case
 times =
     sole0 writes falls1 ∷
-    sole0 reads (gives ReadUnwritten 6) ∷
-    sole0 (delayed (delay (lit ∷ [])) set_y) (gives SharedNet 0) ∷
-    sole0 (timed (delay (lit ∷ [])) absent to_y lit) (gives SharedNet 0) ∷
-    sole0 (timed absent (upon C absent) to_y lit) (gives SharedNet 0) ∷
-    sole0 (block (delayed (delay (lit ∷ [])) set_y ∷ [])) (gives SharedNet 0) ∷
-    sole0 (block (break ∷ delayed (delay (lit ∷ [])) set_y ∷ [])) (gives SharedNet 0) ∷
-    sole0 (block (reads ∷ wait C absent ∷ [])) (gives SharedNet 0) ∷
-    sole0 (if_else C writes (awaits (at C absent) writes)) (gives SharedNet 0) ∷
-    sole0 (case_of C (match (task (w ∷ []) [] 4) (lit ∷ []) ∷ [])) (gives SharedNet 0) ∷
-    sole0 (row "waitfork" 0 []) (gives SharedNet 0) ∷
-    sole0 (fork (delayed (delay (lit ∷ [])) set_y ∷ [])) (gives SharedNet 0) ∷
+    sole0 reads (gives 2 6) ∷
+    sole0 (delayed (delay (lit ∷ [])) set_y) (gives 1 0) ∷
+    sole0 (timed (delay (lit ∷ [])) absent to_y lit) (gives 1 0) ∷
+    sole0 (timed absent (upon C absent) to_y lit) (gives 1 0) ∷
+    sole0 (block (delayed (delay (lit ∷ [])) set_y ∷ [])) (gives 1 0) ∷
+    sole0 (block (break ∷ delayed (delay (lit ∷ [])) set_y ∷ [])) (gives 1 0) ∷
+    sole0 (block (reads ∷ wait C absent ∷ [])) (gives 1 0) ∷
+    sole0 (if_else C writes (awaits (at C absent) writes)) (gives 1 0) ∷
+    sole0 (case_of C (match (task (w ∷ []) [] 4) (lit ∷ []) ∷ [])) (gives 1 0) ∷
+    sole0 (row "waitfork" 0 []) (gives 1 0) ∷
+    sole0 (fork (delayed (delay (lit ∷ [])) set_y ∷ [])) (gives 1 0) ∷
     sole0 break jumps ∷
-    from written false (block (delayed (delay (lit ∷ [])) set_y ∷ [])) (gives SharedNet 0) ∷
+    from written false (block (delayed (delay (lit ∷ [])) set_y ∷ [])) (gives 1 0) ∷
     []
 
 abbrev pub cases : List Case

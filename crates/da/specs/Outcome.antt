@@ -77,9 +77,9 @@ reason_number ControlReads = 8
 -- "form not modelled"
 reason_number NotModelled = 9
 
--- DaGiveUp::at: a reason, with a span
+-- DaGiveUp::at: a reason by its number in document 01, with a span
 abbrev pub give_up : Reason → ℕ → ℕ → DaResult
-give_up reason lo hi = Err (record { reason = reason; lo = lo; hi = hi })
+give_up reason lo hi = Err (record { reason = reason_number reason; lo = lo; hi = hi })
 
 -- "Accepted means falls or jumps"
 abbrev pub Accepted : DaResult → Type 0

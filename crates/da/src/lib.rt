@@ -25,10 +25,10 @@ pub enum Reason {
     NotModelled = 9,
 }
 
-// Where and why the walk stopped.
+// Where the walk stopped, and why: a reason's number.
 #[derive(Clone, Copy)]
 pub struct DaGiveUp {
-    pub reason: Reason,
+    pub reason: u32,
     pub lo: u32,
     pub hi: u32,
 }
