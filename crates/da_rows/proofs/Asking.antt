@@ -24,7 +24,7 @@ use Rattle.da.specs.declared.DaOut.TheVariants.{Falls}
 use Rattle.da.specs.declared.DaGiveUp.{DaGiveUp}
 use Rattle.std.specs.Prelude.{Result, Ok, Err}
 use Rattle.da.specs.declared.Reason.TheVariants.{ReadUnwritten}
-use Rattle.da.specs.Outcome.{DaResult, State, is_written, gains, ◌▷◌}
+use Rattle.da.specs.Outcome.{DaResult, State, is_written, gains, ◌▷◌, reason_number}
 use Rattle.da.specs.Walk.{expr_reads, expr_out_writes, unless_read, unless_one_read, held_facts_at}
 use Rattle.da_rows.specs.declared.States.{States}
 use Rattle.da_rows.specs.Steps.{first_lo, first_hi, facts_in, fact_in, facts_of, fact_of, held_of, read_in, always, states_after, evaluation, onward}
@@ -37,10 +37,10 @@ module _ (x : ℕ) {rows : List ℕ} {from to : ℕ} (g : Nested rows from to) w
 
 -- read_at
 module _ (rows : Siblings) where
-  pub read_some : (row : Node) (stop : DaGiveUp) → First rows row → stop ≡ record { reason = ReadUnwritten; lo = lo_at row.table.now row.at; hi = hi_at row.table.now row.at } → stop ≡ read_in rows
+  pub read_some : (row : Node) (stop : DaGiveUp) → First rows row → stop ≡ record { reason = reason_number ReadUnwritten; lo = lo_at row.table.now row.at; hi = hi_at row.table.now row.at } → stop ≡ read_in rows
   read_some row stop f e = e ∙ rw (f.same, f.starts, lt-ltb rows.from rows.to f.some)
 
-  pub read_none : rows.to ≤ rows.from → record { reason = ReadUnwritten; lo = 0; hi = 0 } ≡ read_in rows
+  pub read_none : rows.to ≤ rows.from → record { reason = reason_number ReadUnwritten; lo = 0; hi = 0 } ≡ read_in rows
   read_none h = rw (le-ltb rows.from rows.to h)
 
 -- evaluate: where all is written nothing is asked, where every row is quiet there is no effect, and else the effect decides
@@ -52,7 +52,7 @@ module _ (x : ℕ) (rows : List ℕ) (from to : ℕ) (a : State) (o : ExprEffect
   pub evaluate_reads : (stop : DaGiveUp)
       → o.effect ≡ Reads
       → Nested rows from to
-      → stop ≡ record { reason = ReadUnwritten; lo = first_lo rows from to; hi = first_hi rows from to }
+      → stop ≡ record { reason = reason_number ReadUnwritten; lo = first_lo rows from to; hi = first_hi rows from to }
       → Err stop ≡ evaluation (fact_in x rows from to) a
   unfolding evaluation
   evaluate_reads stop q g e =
@@ -114,7 +114,7 @@ module _ (e : ExprFacts) (a : State) (q : Result States DaGiveUp) (v : q ≡ eva
   pub states_are : (states : States) → q ≡ Ok states → states ≡ states_after e a
   unfolding evaluation
   states_are states h =
-      goes_to (not (is_written (gains (expr_out_writes e) a)) && expr_reads e) (record { reason = ReadUnwritten; lo = e.lo; hi = e.hi }) (states_after e a) states (sym v ∙ h)
+      goes_to (not (is_written (gains (expr_out_writes e) a)) && expr_reads e) (record { reason = reason_number ReadUnwritten; lo = e.lo; hi = e.hi }) (states_after e a) states (sym v ∙ h)
 
   pub evaluated_stops : (stop : DaGiveUp) (next : DaResult) → q ≡ Err stop → Err stop ≡ unless_read e (gains (expr_out_writes e) a) next
   evaluated_stops stop next h = sym (after_onward e a next ∙ rw (← v, h))

@@ -14,7 +14,7 @@ use Rattle.da.specs.Walk.{DaCtx, StmtRow, held_facts, stmt_row, expr_reads, expr
 use Rattle.da.specs.declared.DaGiveUp.{DaGiveUp}
 use Rattle.da.specs.declared.Reason.{Reason}
 use Rattle.da.specs.declared.Reason.TheVariants.{ReadUnwritten}
-use Rattle.da.specs.Outcome.{DaResult, State, is_written, gains}
+use Rattle.da.specs.Outcome.{DaResult, State, is_written, gains, reason_number}
 use Rattle.da.specs.declared.DaOut.{DaOut}
 use Rattle.da.specs.declared.DaOut.TheVariants.{Falls}
 use Rattle.da_rows.specs.declared.Context.{Context}
@@ -62,7 +62,7 @@ first_hi rows from to = cond (ltb from to) (hi_at rows from) 0
 
 -- reason 2 there: "reason 2 carries the expression's span"
 abbrev pub read_in : Siblings → DaGiveUp
-read_in rows = record { reason = ReadUnwritten; lo = first_lo rows.table.now rows.from rows.to; hi = first_hi rows.table.now rows.from rows.to }
+read_in rows = record { reason = reason_number ReadUnwritten; lo = first_lo rows.table.now rows.from rows.to; hi = first_hi rows.table.now rows.from rows.to }
 
 -- the states after an expression whose value tells nothing
 abbrev pub always : State → States
@@ -81,7 +81,7 @@ states_after e a = record {
 unfoldable pub evaluation : ExprFacts → State → Result States DaGiveUp
 evaluation e a =
     cond (not (is_written (gains (expr_out_writes e) a)) && expr_reads e)
-    (Err (record { reason = ReadUnwritten; lo = e.lo; hi = e.hi }))
+    (Err (record { reason = reason_number ReadUnwritten; lo = e.lo; hi = e.hi }))
     (Ok (states_after e a))
 
 -- what follows an evaluation
@@ -91,7 +91,7 @@ onward (Err stop) next = Err stop
 
 -- a give-up at row i: "the others [carry] the statement's" span
 abbrev pub give_up_at : List ℕ → ℕ → Reason → DaGiveUp
-give_up_at rows i reason = record { reason = reason; lo = lo_at rows i; hi = hi_at rows i }
+give_up_at rows i reason = record { reason = reason_number reason; lo = lo_at rows i; hi = hi_at rows i }
 
 -- ast::CaseItem::Match, ast::CaseItem::Default, "an absent `else`", or a statement
 abbrev pub part_of_class : StmtClass → Part

@@ -3,7 +3,6 @@
 #![tactic(auto)]
 
 ghost use Rattle.std.specs.Prelude.{◌≡◌, ◌&&◌, ◌||◌, not, ◌+◌, Ok};
-ghost use Rattle.table.specs.Rows.{side_at};
 ghost use Rattle.table.specs.Siblings.{forest};
 ghost use Rattle.table.specs.Fold.{tail};
 ghost use Rattle.reads.specs.declared.Iff.TheVariants.{Skipped};
@@ -51,7 +50,7 @@ pub fn give_up(row: Node, reason: Reason) -> DaGiveUp
     ensures { result ≡ give_up_at row.entry.table.now row.entry.at reason }
 {
     DaGiveUp {
-        reason,
+        reason: reason as u32,
         lo: row.lo(),
         hi: row.hi(),
     }
@@ -64,7 +63,7 @@ fn read_at(rows: Siblings) -> DaGiveUp
     match rows.first() {
         Some(row) => give_up(row, Reason::ReadUnwritten),
         None => DaGiveUp {
-            reason: Reason::ReadUnwritten,
+            reason: Reason::ReadUnwritten as u32,
             lo: 0,
             hi: 0,
         },
@@ -221,16 +220,16 @@ fn falls_written(out: DaOut) -> bool
     matches!(out, DaOut::Falls(true))
 }
 
-// loop_body_assigns, of the loop in a row and its body, the first of these rows.
-fn loop_body_assigns(row: Node, body: Siblings, out: DaOut) -> bool
-    ensures { result ≡ body_assigns (side_at row.entry.table.now row.entry.at) (forest body.entry) out }
+// loop_body_assigns, of a loop with this side number and its body, the first of these rows.
+fn loop_body_assigns(side: usize, body: Siblings, out: DaOut) -> bool
+    ensures { result ≡ body_assigns side (forest body.entry) out }
 {
-    falls_written(out) && row.side() == 1 && loops::stmt_cannot_escape(body.head())
+    falls_written(out) && side == 1 && loops::stmt_cannot_escape(body.head())
 }
 
 // Whether the local is written after the rounds of a loop. Where it is so after the condition, the body is not looked at.
-pub fn rounds_write(row: Node, body: Siblings, out: DaOut, after: bool) -> bool
-    ensures { result ≡ after || body_assigns (side_at row.entry.table.now row.entry.at) (forest body.entry) out }
+pub fn rounds_write(side: usize, body: Siblings, out: DaOut, after: bool) -> bool
+    ensures { result ≡ after || body_assigns side (forest body.entry) out }
 {
-    after || loop_body_assigns(row, body, out)
+    after || loop_body_assigns(side, body, out)
 }
