@@ -100,11 +100,12 @@ module _ (ctx : DaCtx) (row : Node) (init : Siblings) (a : State) (r : DaResult)
         pub for_step_stops : (stop : DaGiveUp) → d ≡ Err stop → Err stop ≡ for_at ctx row.table.now row.at row.end a
         for_step_stops stop j = rw (i, j) at (for_is d z)
 
-        pub for_falls : (step_out : DaOut) (wrote : State)
+        pub for_falls : (step_out : DaOut) (side : ℕ) (wrote : State)
             → d ≡ Ok step_out
-            → wrote ≡ gains (body_assigns (side_at row.table.now row.at) (forest body) body_out) states.after
+            → side ≡ side_at row.table.now row.at
+            → wrote ≡ gains (body_assigns side (forest body) body_out) states.after
             → Ok (Falls wrote) ≡ for_at ctx row.table.now row.at row.end a
-        for_falls step_out wrote j o = rw o (rw (i, j) at (for_is d z))
+        for_falls step_out side wrote j p o = rw (o, p) (rw (i, j) at (for_is d z))
 
 -- da_while, da_repeat
 module _ (ctx : DaCtx) (row : Node) (test : Siblings) (a : State) (c : Children row test) (q : Result States DaGiveUp) (e : q ≡ evaluation (fact_of ctx.local test) a) where

@@ -163,21 +163,25 @@ fn da_arm(ctx: &Context, rows: Siblings, after: bool) -> DaResult
     da_inner(ctx, rows, after)
 }
 
-// The rounds of a loop which has no step: its body is the first of these rows.
+// The rounds of a loop which has no step: its body is the first of these rows. The side of the loop's row is read before the body is walked,
+// so that the row takes no stack meanwhile.
 #[cycle(walk)]
 fn da_rounds(ctx: &Context, row: Node, body: Siblings, after: bool, in_body: bool) -> DaResult
     requires { body.to - body.from < row.end - row.at }
     ensures { result ≡ rounds_at (untimed ctx.now) row.entry.table.now row.entry.at row.entry.end (forest body.entry) after in_body }
 {
+    let side = row.side();
     let body_out = da_inner(ctx, body, in_body)?;
-    Ok(DaOut::Falls(da_rows::rounds_write(row, body, body_out, after)))
+    Ok(DaOut::Falls(da_rows::rounds_write(side, body, body_out, after)))
 }
 
-// A for: its init, then its condition, and rounds where that is true. Its step is walked after its body, from where the body starts.
+// A for: its init, then its condition, and rounds where that is true. Its step is walked after its body, from where the body starts. The side
+// is read first, as in da_rounds.
 #[cycle(walk)]
 fn da_for(ctx: &Context, row: Node, assigned: bool) -> DaResult
     ensures { result ≡ for_at (untimed ctx.now) row.entry.table.now row.entry.at row.entry.end assigned }
 {
+    let side = row.side();
     let init = row.children();
     let start = da_inner(ctx, init, assigned)?;
     let test = init.rest();
@@ -186,7 +190,7 @@ fn da_for(ctx: &Context, row: Node, assigned: bool) -> DaResult
     let body = step.rest();
     let body_out = da_inner(ctx, body, states.when_true)?;
     da_inner(ctx, step, states.when_true)?;
-    Ok(DaOut::Falls(da_rows::rounds_write(row, body, body_out, states.after)))
+    Ok(DaOut::Falls(da_rows::rounds_write(side, body, body_out, states.after)))
 }
 
 // A while. It and a repeat are two rules, while_at and repeat_at, which differ in the state of a round: one function would need a flag.
