@@ -7,7 +7,6 @@ use mathlib.Core.List.{List, [], ◌∷◌, ◌++◌}
 use Rattle.kinds.specs.Kinds.{bytes}
 use Rattle.refusals.specs.declared.Refusal.TheVariants.{WrongEnd, TooLong}
 use Rattle.writing.specs.Spelling.{spelled_by, spelled, field_text}
-use Rattle.da.specs.declared.Reason.TheVariants.{ReadUnwritten, NotModelled}
 use Rattle.answers.specs.declared.Answer.{Answer}
 use Rattle.answers.specs.declared.Answer.TheVariants.{Falls, Jumps, GivesUp, Refused}
 use Rattle.answers.specs.Answers.{answer_text}
@@ -21,7 +20,7 @@ abbrev joined : Answer → List ℕ
 joined answer = answer_text 59 answer
 
 abbrev listing : Answer
-listing = GivesUp (record { reason = ReadUnwritten; lo = 4; hi = 5 })
+listing = GivesUp (record { reason = 2; lo = 4; hi = 5 })
 
 pub record Samples : Type 0 where
   pub the_listing : joined listing ≡ line "answer=giveup;state=0;reason=2;lo=4;hi=5"
@@ -31,7 +30,7 @@ pub record Samples : Type 0 where
   pub jumps : joined Jumps ≡ line "answer=jumps;state=0;reason=0;lo=0;hi=0"
   pub wrong_end : joined (Refused WrongEnd 9) ≡ line "answer=refused;state=0;reason=7;lo=9;hi=0"
   pub too_long : joined (Refused TooLong 0) ≡ line "answer=refused;state=0;reason=10;lo=0;hi=0"
-  pub large : joined (GivesUp (record { reason = NotModelled; lo = 4294967295; hi = 18446744073709551615 })) ≡ line "answer=giveup;state=0;reason=9;lo=4294967295;hi=18446744073709551615"
+  pub large : joined (GivesUp (record { reason = 9; lo = 4294967295; hi = 18446744073709551615 })) ≡ line "answer=giveup;state=0;reason=9;lo=4294967295;hi=18446744073709551615"
 
 pub samples : Samples
 unfolding answer_text field_text spelled spelled_by

@@ -3,7 +3,6 @@ use Rattle.std.specs.Prelude.{ℕ, ◌-◌, ◌≤◌, Bool, true, false, List, 
 use Rattle.kinds.specs.Kinds.{bytes}
 use Rattle.refusals.specs.Refusals.{refusal_number}
 use Rattle.writing.specs.Spelling.{spelled, field_text}
-use Rattle.da.specs.Outcome.{reason_number}
 use Rattle.answers.specs.declared.Answer.{Answer}
 use Rattle.answers.specs.declared.Answer.TheVariants.{Falls, Jumps, GivesUp, Refused}
 use Rattle.answers.specs.declared.Numbers.{Numbers}
@@ -40,7 +39,7 @@ five_numbers answer state reason lo hi = record { answer = answer; state = state
 abbrev pub numbers_of : Answer → Numbers
 numbers_of (Falls written) = five_numbers 0 (bit_of written) 0 0 0
 numbers_of Jumps = five_numbers 1 0 0 0 0
-numbers_of (GivesUp stop) = five_numbers 2 0 (reason_number stop.reason) stop.lo stop.hi
+numbers_of (GivesUp stop) = five_numbers 2 0 stop.reason stop.lo stop.hi
 numbers_of (Refused refusal place) = five_numbers 3 0 (refusal_number refusal) place 0
 
 -- the numbers of a walk's answer: "falls with written 0 or 1; jumps; give-up with reason, lo, hi"; the reasons are 1 to 9

@@ -34,7 +34,6 @@ use Rattle.loops.specs.Escape.{cannot_escape_at}
 use Rattle.loops.specs.Time.{waiting_words, is_one_of, lets_time_pass, advances_at}
 use Rattle.da.specs.Walk.{held_facts_at, walk_at}
 use Rattle.writing.specs.Spelling.{spelled_by, spelled, field_text}
-use Rattle.da.specs.declared.Reason.TheVariants.{ReadUnwritten}
 use Rattle.answers.specs.declared.Answer.TheVariants.{Falls, GivesUp}
 use Rattle.answers.specs.Answers.{AcceptedAnswer, answer_text}
 use Rattle.ask.specs.Ask.{ask_of}
@@ -51,7 +50,7 @@ jumping =
     ++ line "row=disable 0 21 38 12" ++ line "row=path 0 29 37 12" ++ line "row=seg 0 29 37 12"
 
 pub record Sampled : Type 0 where
-  pub listed : verdict_of listing 46 7 ≡ GivesUp (record { reason = ReadUnwritten; lo = 4; hi = 5 })
+  pub listed : verdict_of listing 46 7 ≡ GivesUp (record { reason = 2; lo = 4; hi = 5 })
   pub printed : answer_text 59 (verdict_of listing 46 7) ≡ bytes "answer=giveup;state=0;reason=2;lo=4;hi=5" ++ (10 ∷ [])
   pub accepted : verdict_of jumping 60 6 ≡ Falls false
   pub start : (sheet_of jumping).start ≡ 0
