@@ -25,7 +25,7 @@ pub enum Reason {
     NotModelled = 9,
 }
 
-// Where the walk stopped, and why: a reason's number.
+// Where the walk stopped, and why: a reason's number, since answers tell any that a caller makes.
 #[derive(Clone, Copy)]
 pub struct DaGiveUp {
     pub reason: u32,
