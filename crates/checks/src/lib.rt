@@ -154,8 +154,9 @@ fn end_right(rows: &[u32], names: usize, row: usize, entry: Kind, least: usize, 
 }
 
 // The kind and the side number of row i.
-fn check_fields(rows: &[u32], names: usize, i: usize) -> Result<(), Refused>
-    requires { 5 * i + 4 < length rows.now }
+fn check_fields(rows: &[u32], names: usize, i: usize, entries: &[Kind; 66]) -> Result<(), Refused>
+    requires in_table { 5 * i + 4 < length rows.now }
+    requires entries { entries.now ≡ map numbers kind_list }
     ensures { result ≡ fields_at rows.now names i }
 {
     let kind = table::kind_at(rows, i);
@@ -165,7 +166,7 @@ fn check_fields(rows: &[u32], names: usize, i: usize) -> Result<(), Refused>
             place: i,
         });
     }
-    if !kinds::side_fits(kinds::kinds()[kind], table::side_at(rows, i), names) {
+    if !kinds::side_fits(entries[kind], table::side_at(rows, i), names) {
         return Err(Refused {
             refusal: Refusal::WrongSide,
             place: i,
@@ -182,12 +183,14 @@ fn refuse(
     names: usize,
     row: usize,
     refusal: Refusal,
+    entries: &[Kind; 66],
 ) -> Result<(), Refused>
-    requires { Held rows.now count }
+    requires held { Held rows.now count }
+    requires entries { entries.now ≡ map numbers kind_list }
     ensures { result ≡ refused_of rows.now count names row refusal }
 {
     for i in row..count {
-        check_fields(rows, names, i)?;
+        check_fields(rows, names, i, entries)?;
     }
     Err(Refused {
         refusal,
@@ -214,15 +217,15 @@ fn check_rest(
     while 0 < at.depth {
         let kind = table::kind_at(rows, row);
         if 66 <= kind {
-            return refuse(rows, count, names, row, Refusal::WrongEnd);
+            return refuse(rows, count, names, row, Refusal::WrongEnd, entries);
         }
         let entry = entries[kind];
         let d = at.depth;
         if !end_right(rows, names, row, entry, row + 1, ends[d - 1]) {
-            return refuse(rows, count, names, row, Refusal::WrongEnd);
+            return refuse(rows, count, names, row, Refusal::WrongEnd, entries);
         }
         if 100 <= d {
-            return refuse(rows, count, names, row, Refusal::TooDeep);
+            return refuse(rows, count, names, row, Refusal::TooDeep, entries);
         }
         let end = table::end_at(rows, row);
         at = enter(ends, left, own, at, row, kind, end, entry.children);
@@ -282,11 +285,11 @@ pub fn check(rows: &[u32], count: usize, names: usize) -> Result<(), Refused>
     let entries = kinds::kinds();
     let kind = table::kind_at(rows, 0);
     if 66 <= kind {
-        return refuse(rows, count, names, 0, Refusal::WrongEnd);
+        return refuse(rows, count, names, 0, Refusal::WrongEnd, &entries);
     }
     let entry = entries[kind];
     if !end_right(rows, names, 0, entry, count, count) {
-        return refuse(rows, count, names, 0, Refusal::WrongEnd);
+        return refuse(rows, count, names, 0, Refusal::WrongEnd, &entries);
     }
     check_from_root(
         rows,

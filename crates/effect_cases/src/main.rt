@@ -111,20 +111,15 @@ impl Rows {
             self.add_all(part);
         }
     }
-}
 
-// The rows that a text gives.
-fn rows_of(text: &[u8]) -> Rows {
-    let mut rows = Rows {
-        numbers: [0; NUMBERS],
-        count: 0,
-    };
-    for part in text.split_inclusive(|b| *b == b']') {
-        let (plain, repeated) = case_text::split(case_text::split(part, b']').0, b'[');
-        rows.add_all(plain);
-        rows.add_repeated(repeated);
+    // Adds the rows that a text gives.
+    fn add_text(&mut self, text: &[u8]) {
+        for part in text.split_inclusive(|b| *b == b']') {
+            let (plain, repeated) = case_text::split(case_text::split(part, b']').0, b'[');
+            self.add_all(plain);
+            self.add_repeated(repeated);
+        }
     }
-    rows
 }
 
 fn say_mention(rt: &impl Print, mention: Option<usize>) -> io::Result<()> {
@@ -189,21 +184,23 @@ fn check_and_answer(
     }
 }
 
-fn one_case(rt: &impl Print, text: &[u8]) -> io::Result<()> {
-    let (title, text) = case_text::split(text, b'|');
-    let (local, text) = case_text::split(text, b'|');
-    let rows = rows_of(text);
+fn report(rt: &impl Print, title: &[u8], rows: &Rows, local: usize) -> io::Result<()> {
     let mut blocks = rows.numbers;
     case_text::as_blocks(&mut blocks);
     rt.write_all(title)?;
-    check_and_answer(
-        rt,
-        &rows.numbers,
-        &blocks,
-        rows.count,
-        case_text::decimal(local),
-    )?;
+    check_and_answer(rt, &rows.numbers, &blocks, rows.count, local)?;
     rt.write_all(b"\n")
+}
+
+fn one_case(rt: &impl Print, text: &[u8]) -> io::Result<()> {
+    let (title, text) = case_text::split(text, b'|');
+    let (local, text) = case_text::split(text, b'|');
+    let mut rows = Rows {
+        numbers: [0; NUMBERS],
+        count: 0,
+    };
+    rows.add_text(text);
+    report(rt, title, &rows, case_text::decimal(local))
 }
 
 fn main(rt: HostRuntime) -> io::Result<()> {

@@ -431,7 +431,7 @@ const KINDS: [Kind; 66] = [
     },
 ];
 
-// The whole table.
+// The whole table. A caller lays it down once, above its loop over rows.
 pub fn kinds() -> [Kind; 66]
     ensures { result ≡ map numbers kind_list }
 {

@@ -1,18 +1,20 @@
 -- A line with a name, test by test: a law for each place where the code returns, with the tests before it as premises.
 use Prim.Native.Nat.{ℕ, ◌-◌}
-use mathlib.Core.Path.{◌≡◌, refl, ◌∙◌}
-use mathlib.Core.Bool.{Bool, true, false, cond, ◌&&◌}
-use mathlib.Core.List.{List}
-use lib.Dec.{eqb, leb}
+use mathlib.Core.Path.{◌≡◌, refl, sym, ◌∙◌}
+use mathlib.Core.Bool.{Bool, true, false, cond, ◌&&◌, ◌||◌, true≢false}
+use mathlib.Core.List.{List, [], ◌∷◌}
+use native.Mathlib.Omega.{arith}
+use lib.Dec.{eqb, leb, ltb}
+use borrow.Author.Tests.{eq-eqb, eqb-true, lt-ltb}
 use lib.ListN.{length, take, drop}
 use mir.Val.{bool_byte}
 use Rattle.std.specs.Prelude.{Option, Some, None, Result, Ok, Err}
 use Rattle.std.specs.List.{starts_with as begins_with}
 use Rattle.kinds.specs.Kinds.{bytes}
-use Rattle.text.specs.Fields.{below}
-use Rattle.text.specs.Steps.{after_key, graphic_line}
+use Rattle.text.specs.Fields.{below, stands, starts_with}
+use Rattle.text.specs.Steps.{after_byte, after_key, graphic_line}
 use Rattle.text.specs.declared.GraphicLine.{GraphicLine}
-use Rattle.text.proofs.Places.{begins}
+use Rattle.text.proofs.Places.{begins, byte_missed}
 use Rattle.text.proofs.FieldLaws.{key_found, field_part, line_missed, line_ends, line_next, line_told, line_text_lem}
 use Rattle.refusals.specs.declared.Refusal.{Refusal}
 use Rattle.refusals.specs.declared.Refusal.TheVariants.{WrongLine, WrongName}
@@ -20,6 +22,24 @@ use Rattle.lines.specs.declared.Line.{Line}
 use Rattle.lines.specs.declared.Name.{Name}
 use Rattle.lines.specs.Lines.{jump_mark, name_of, name_line}
 use Rattle.lines.proofs.NumberLaws.{no_key, no_end, key_and_end}
+
+-- both beginnings begin with the byte `$`
+module _ (y : ℕ) (ys : List ℕ) where
+  other_first : (b : Bool) → eqb 36 y ≡ b → eqb y 36 ≡ false → b ≡ false
+  other_first true p e = absurd (true≢false (sym (eq-eqb y 36 (sym (eqb-true 36 y p))) ∙ e))
+  other_first false p e = refl
+
+held : (a b : Bool) → a ≡ true → (a && b) ≡ false → b ≡ false
+held true b h e = e
+held false b h e = absurd (true≢false (sym h))
+
+no_dollar : (name : List ℕ) → stands 36 name 0 ≡ false → 0 ≡ jump_mark name
+unfolding jump_mark stands starts_with
+no_dollar [] e = refl
+no_dollar (y ∷ ys) e = rw (other_first y ys (eqb 36 y) refl (held (ltb 0 (length (y ∷ ys))) (eqb y 36) (lt-ltb 0 (length (y ∷ ys)) (omega arith)) e))
+
+pub mark_none : (name : List ℕ) (o : Option ℕ) → o ≡ after_byte 36 name 0 → o ≡ None → 0 ≡ jump_mark name
+mark_none name o q e = no_dollar name (byte_missed 36 name 0 o q e)
 
 -- the jump mark, as the two beginnings were found or not
 module _ (name : List ℕ) (a : Bool) (p : a ≡ begins_with eqb name (bytes "$break$")) where

@@ -90,14 +90,12 @@ fn put_first<'a, 'b>(out: &'b mut Sheet, text: &'a [u8]) -> &'a [u8]
     rest
 }
 
-// The sheet that a text stands for.
-fn build(text: &[u8]) -> Sheet {
-    let mut out = Sheet::new();
+// Puts what a text stands for.
+fn put_all(out: &mut Sheet, text: &[u8]) {
     let mut rest = text;
     while !rest.is_empty() {
-        rest = put_first(&mut out, rest);
+        rest = put_first(out, rest);
     }
-    out
 }
 
 fn say_record(rt: &impl Print, record: Record) -> io::Result<()> {
@@ -165,7 +163,8 @@ fn load_case(rt: &impl Print, text: &[u8]) -> io::Result<()> {
     let (name_numbers, text) = case_text::split(text, b'|');
     let row_count = case_text::decimal(row_numbers).min(rows.len());
     let name_count = case_text::decimal(name_numbers).min(names.len());
-    let sheet = build(text);
+    let mut sheet = Sheet::new();
+    put_all(&mut sheet, text);
     load_into(
         rt,
         sheet.as_slice(),
@@ -193,9 +192,11 @@ fn name_case(rt: &impl Print, text: &[u8]) -> io::Result<()> {
     let (record, text) = case_text::split(text, b'|');
     let (numbers, text) = case_text::split(text, b'|');
     let (asked, text) = case_text::split(text, b'|');
-    let table = build(numbers);
+    let mut table = Sheet::new();
+    put_all(&mut table, numbers);
     let count = case_text::set_table(&mut names, table.as_slice()).min(names.len());
-    let sheet = build(text);
+    let mut sheet = Sheet::new();
+    put_all(&mut sheet, text);
     name_of(
         rt,
         sheet.as_slice(),

@@ -190,5 +190,5 @@ pub fn graphic_line(s: &[u8], at: usize) -> GraphicLine
 pub fn is_below(a: &[u8], b: &[u8]) -> bool
     ensures { result ≡ below a.now b.now }
 {
-    a < b
+    a.cmp(b).is_lt()
 }
