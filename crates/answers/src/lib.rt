@@ -8,7 +8,7 @@ ghost use Rattle.answers.specs.Steps.{word_text, outcome_text, stop_text};
 
 use da::DaGiveUp;
 use refusals::Refusal;
-use writing::Text;
+pub use writing::Text;
 
 // One of: falls with written or not; jumps; a give-up with reason, lo and hi; a refusal with its place. These two are no `Refused`: three of
 // the four who answer so name them apart.

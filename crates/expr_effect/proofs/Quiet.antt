@@ -80,13 +80,9 @@ pub quiet_effects : (x : ℕ) {rows : List ℕ} {from to : ℕ} → Nested rows 
 quiet_effects x {from = from} {to = to} g q = quiet_by (to - from) x (omega arith) g q
 
 -- all_quiet
-module _ (x : ℕ) (rows head left : Siblings) (b : Bool) (u : Head rows head) (w : AfterQuiet x head.table.now head.from head.to left.from) (n : (left.table.now ≡ head.table.now) × (left.to ≡ head.to)) (p : b ≡ leb left.to left.from) (e : b ≡ true) where
+module _ (x : ℕ) (rows head : Siblings) (left : ℕ) (u : Head rows head) (w : AfterQuiet x head.table.now head.from head.to left) (n : head.to ≤ left) where
   pub quiet_first : expr_effect_of x (forest rows) 0 ≡ no_effect
-  quiet_first =
-      sym (fold_head (expr_effect_at x) no_effect u)
-      ∙ quiet_effects x head.nested (λ j q l. w.quiet j q (omega (arith, n.1, leb-true left.to left.from (sym p ∙ e)))) 0
+  quiet_first = sym (fold_head (expr_effect_at x) no_effect u) ∙ quiet_effects x head.nested (λ j q l. w.quiet j q (omega arith)) 0
 
   pub quiet_told : EffectTold x (forest rows) no_effect
   quiet_told = effect_told x (forest rows) no_effect (sym quiet_first)
-
-pub ruleset quiet_answers = (quiet_first, quiet_told)

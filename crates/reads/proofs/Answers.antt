@@ -14,7 +14,7 @@ use Rattle.table.specs.Rows.{kind_at, side_at, end_at, Forest, tree, rest}
 use Rattle.table.specs.declared.Siblings.{Siblings}
 use Rattle.table.specs.declared.Node.{Node}
 use Rattle.table.specs.Siblings.{forest, First, Children, Head, Rest}
-use Rattle.table.proofs.Tree.{tree_some}
+use Rattle.table.proofs.Tree.{tree_none, tree_some}
 use Rattle.table.proofs.Parts.{rest_after, forest_none, forest_some, forest_rest}
 use Rattle.kinds.specs.declared.ExprClass.{ExprClass}
 use Rattle.kinds.specs.declared.StmtClass.{StmtClass}
@@ -40,11 +40,11 @@ pub begins_none : (x : ℕ) (rows : Siblings) → rows.to ≤ rows.from → fals
 unfolding begins
 begins_none x rows h = rw (forest_none rows h)
 
-module _ (x : ℕ) (rows below : Siblings) (path : Node) (f : First rows path) (b : Children path below) where
-  pub begins_short : below.to ≤ below.from → false ≡ begins x (forest rows)
-  unfolding begins is_named
-  begins_short h = rw (forest_some f b, forest_none below h)
+pub begins_short : (x : ℕ) (rows : Siblings) (path : Node) → First rows path → path.end ≤ path.at + 1 → false ≡ begins x (forest rows)
+unfolding begins is_named
+begins_short x rows path f h = rw (tree_some rows.nested f.some, tree_none rows.table.now (rows.from + 1) (end_at rows.table.now rows.from) (omega (arith, f.starts, f.ends)))
 
+module _ (x : ℕ) (rows below : Siblings) (path : Node) (f : First rows path) (b : Children path below) where
   pub begins_some : (segment : Node) (s : ℕ) → First below segment → s ≡ side_at segment.table.now segment.at → eqb s x ≡ begins x (forest rows)
   unfolding begins is_named
   begins_some segment s g v = rw (v, g.same, g.starts, forest_some f b, tree_some below.nested g.some)

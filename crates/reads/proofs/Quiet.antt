@@ -66,11 +66,11 @@ module _ (x : ℕ) (rows : List ℕ) (i : ℕ) where
     pub quiet_after : 41 ≤ k → ((k ≡ 41) ⊎ (k ≡ 60) → ⊥) → (k ≡ 54 → ⊥) → (k ≡ 59 → ⊥) → true ≡ true → Quiet x rows i
     quiet_after h path call opaque t = by_content (ap (λ j. role_of (expr_class j)) (sym e) ∙ content k (λ q. omega arith) (λ q. path (inl q)) call opaque (λ q. path (inr q)))
 
-  module _ (from to : ℕ) (b : Bool) (g : Nested rows from to) (a : from ≤ i) (h : i < to) (n : b ≡ true → i + 2 < to → side_at rows (i + 2) ≡ x → ⊥) where
+  module _ (from to : ℕ) (b : Bool) (g : Nested rows from to) (a : from ≤ i) (h : i < to) (segment : ℕ) (two : i + 2 ≡ segment) (n : b ≡ true → segment < to → side_at rows segment ≡ x → ⊥) where
     by_path : (c : ExprClass) → c ≡ expr_class (kind_at rows i) → role_of c ≡ ByPath → (c ≡ Call → side_at rows i ≡ 1 → ⊥) → b ≡ true → Quiet x rows i
     by_path c e role w t =
-        let two : i + 1 + 1 ≡ i + 2 = omega arith in
-        let headless : begins x (tree rows (i + 1) (end_at rows i)) ≡ false = path_other x (children (later g i a (omega arith)) h) (ltb (i + 1) (end_at rows i)) refl (λ l. rw two (n t (omega (arith, ends_within (later g i a (omega arith)) h)))) in
+        let one : i + 1 + 1 ≡ segment = omega arith in
+        let headless : begins x (tree rows (i + 1) (end_at rows i)) ≡ false = path_other x (children (later g i a (omega arith)) h) (ltb (i + 1) (end_at rows i)) refl (λ l. rw one (n t (omega (arith, ends_within (later g i a (omega arith)) h)))) in
         record {
           unmentioning = rw (← e, role, headless);
           eventless = rw (← e, role);
@@ -81,8 +81,8 @@ module _ (x : ℕ) (rows : List ℕ) (i : ℕ) where
     quiet_path k e (inl v) = by_path Ident (rw (← e) (ident_is k v)) refl (λ c s. let z : ◌≡◌ {A = ℕ} 0 1 = cc in absurd (omega arith))
     quiet_path k e (inr v) = by_path Lident (rw (← e) (lident_is k v)) refl (λ c s. let z : ◌≡◌ {A = ℕ} 0 1 = cc in absurd (omega arith))
 
-    pub quiet_call : (s : ℕ) → kind_at rows i ≡ 54 → s ≡ side_at rows i → (s ≡ 1 → ⊥) → b ≡ true → Quiet x rows i
-    quiet_call s e v n = by_path Call (call_is (kind_at rows i) e) refl (λ c w. n (v ∙ w))
+  pub quiet_call : (from to : ℕ) (b : Bool) → Nested rows from to → from ≤ i → i < to → (b ≡ true → i + 2 < to → side_at rows (i + 2) ≡ x → ⊥) → (s : ℕ) → kind_at rows i ≡ 54 → s ≡ side_at rows i → (s ≡ 1 → ⊥) → b ≡ true → Quiet x rows i
+  quiet_call from to b g a h n s e v m = by_path from to b g a h (i + 2) refl n Call (call_is (kind_at rows i) e) refl (λ c w. m (v ∙ w))
 
 pub ruleset quiet_answers = (quiet_before, quiet_after, quiet_path, quiet_call)
 

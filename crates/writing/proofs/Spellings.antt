@@ -50,9 +50,9 @@ unfolding spelled
 spelled_decimal n h = sym (decimal_from_appends spelled_by (record { one = by_last_plain; more = λ k n l. by_more k n (omega arith) }) 20 n (omega arith) (length-decimal-le 20 n (omega arith) (omega arith) (omega arith)))
 
 -- so a text that std spells so is the text of the number: where it fits, and where it is put
-module _ (n : ℕ) (h : n < 18446744073709551616) (text bytes : List ℕ) (e : text ≡ bytes) (f : bytes ≡ decimal n) where
+module _ (n m : ℕ) (h : n < 18446744073709551616) (same : m ≡ n) (text bytes : List ℕ) (e : text ≡ bytes) (f : bytes ≡ decimal m) where
   pub number_fits : (at room : ℕ) → at + length (spelled n) ≤ room → at + length text ≤ room
-  number_fits at room l = rw (e, f, spelled_decimal n h) l
+  number_fits at room l = rw (e, f, same, spelled_decimal n h) l
 
   pub number_put : (at next : ℕ) (out after : List ℕ) → PutAt out at text after next → PutAt out at (spelled n) after next
-  number_put at next out after w = rw (← spelled_decimal n h, ← f, ← e) w
+  number_put at next out after w = rw (← spelled_decimal n h, ← same, ← f, ← e) w
