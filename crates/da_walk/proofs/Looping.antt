@@ -2,7 +2,6 @@
 -- parts of a for are the siblings after its row, one step of the fold each.
 use mathlib.Core.Path.{◌≡◌, refl, sym, ap, ◌∙◌}
 use mathlib.Core.Bool.{Bool, true}
-use mathlib.Core.List.{List}
 use Prim.Native.Nat.{ℕ, ◌+◌}
 use Rattle.table.specs.declared.Siblings.{Siblings}
 use Rattle.table.specs.declared.Node.{Node}

@@ -1,10 +1,10 @@
 -- A line with a name, test by test: a law for each place where the code returns, with the tests before it as premises.
 use Prim.Native.Nat.{ℕ, ◌-◌}
 use mathlib.Core.Path.{◌≡◌, refl, sym, ◌∙◌}
-use mathlib.Core.Bool.{Bool, true, false, cond, ◌&&◌, ◌||◌, true≢false}
+use mathlib.Core.Bool.{Bool, true, false, cond, ◌&&◌, true≢false}
 use mathlib.Core.List.{List, [], ◌∷◌}
 use native.Mathlib.Omega.{arith}
-use lib.Dec.{eqb, leb, ltb}
+use lib.Dec.{eqb, leb}
 use borrow.Author.Tests.{eq-eqb, eqb-true, lt-ltb}
 use lib.ListN.{length, take, drop}
 use mir.Val.{bool_byte}
@@ -24,19 +24,14 @@ use Rattle.lines.specs.Lines.{jump_mark, name_of, name_line}
 use Rattle.lines.proofs.NumberLaws.{no_key, no_end, key_and_end}
 
 -- both beginnings begin with the byte `$`
-module _ (y : ℕ) (ys : List ℕ) where
-  other_first : (b : Bool) → eqb 36 y ≡ b → eqb y 36 ≡ false → b ≡ false
-  other_first true p e = absurd (true≢false (sym (eq-eqb y 36 (sym (eqb-true 36 y p))) ∙ e))
-  other_first false p e = refl
-
-held : (a b : Bool) → a ≡ true → (a && b) ≡ false → b ≡ false
-held true b h e = e
-held false b h e = absurd (true≢false (sym h))
+other_first : (y : ℕ) (b : Bool) → eqb 36 y ≡ b → eqb y 36 ≡ false → b ≡ false
+other_first y true p e = absurd (true≢false (sym (eq-eqb y 36 (sym (eqb-true 36 y p))) ∙ e))
+other_first y false p e = refl
 
 no_dollar : (name : List ℕ) → stands 36 name 0 ≡ false → 0 ≡ jump_mark name
 unfolding jump_mark stands starts_with
 no_dollar [] e = refl
-no_dollar (y ∷ ys) e = rw (other_first y ys (eqb 36 y) refl (held (ltb 0 (length (y ∷ ys))) (eqb y 36) (lt-ltb 0 (length (y ∷ ys)) (omega arith)) e))
+no_dollar (y ∷ ys) e = rw (other_first y (eqb 36 y) refl (rw (lt-ltb 0 (length (y ∷ ys)) (omega arith)) at e))
 
 pub mark_none : (name : List ℕ) (o : Option ℕ) → o ≡ after_byte 36 name 0 → o ≡ None → 0 ≡ jump_mark name
 mark_none name o q e = no_dollar name (byte_missed 36 name 0 o q e)
