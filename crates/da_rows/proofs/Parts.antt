@@ -1,10 +1,10 @@
 -- Parts of statements: what the functions answer, from what stands in the code where they return, and that the walk tells its parts apart
 -- in the same way, class by class. Nothing recurses.
 use mathlib.Core.Path.{◌≡◌, refl, sym, ap, ◌∙◌}
-use mathlib.Core.Bool.{Bool, true, false, and-true}
+use mathlib.Core.Bool.{Bool, true, false, and-true, and-false}
 use mathlib.Core.List.{List}
 use Prim.Native.Nat.{ℕ, ◌+◌, ◌≤◌}
-use lib.Dec.{ltb}
+use lib.Dec.{eqb, ltb}
 use borrow.Author.Tests.{ltb-true, ltb-false, lt-ltb, le-ltb}
 use Rattle.table.specs.declared.Siblings.{Siblings}
 use Rattle.table.specs.declared.Node.{Node}
@@ -45,7 +45,16 @@ module _ (rows : Siblings) where
   pub part_none : rows.to ≤ rows.from → part_of rows ≡ Absent
   part_none h = rw (le-ltb rows.from rows.to h)
 
--- loop_body_assigns, where the body falls written and the side number is 1
+-- loop_body_assigns, where the body does not fall written, or where it does and the side number is not 1
+module _ (s side : ℕ) (body : Siblings) (out : DaOut) (b w : Bool) (e : b ≡ falls_written out) where
+  pub body_unwritten : b ≡ false → w ≡ false → w ≡ body_assigns side (forest body) out
+  body_unwritten h y = y ∙ rw (← e, h)
+
+  module _ (h : b ≡ true) (p : s ≡ side) (q : w ≡ eqb s 1) where
+    pub body_told : w ≡ false → w ≡ body_assigns side (forest body) out
+    body_told y = y ∙ rw (← e, h, ← p, sym q ∙ y) (sym (and-false (nth true 0 (cannot_escapes (forest body)))))
+
+-- and where the body falls written and the side number is 1
 pub body_stays : (side : ℕ) (body head : Siblings) (out : DaOut) (b r : Bool)
     → b ≡ falls_written out
     → (b ≡ true) × (side ≡ 1)
@@ -55,6 +64,8 @@ pub body_stays : (side : ℕ) (body head : Siblings) (out : DaOut) (b r : Bool)
 body_stays side body head out b r e h t v =
     let k : cannot_escape (forest head) ≡ nth true 0 (cannot_escapes (forest body)) = rw (t.same, t.starts) (escape_alone body.nested t.ends) in
     v ∙ k ∙ rw (← e, h.0, h.1) (sym (and-true (nth true 0 (cannot_escapes (forest body)))))
+
+pub ruleset body_answers = (body_unwritten, body_told, body_stays)
 
 -- What the walk knows of the first of the rows from `from` up to `to`
 

@@ -86,3 +86,5 @@ module _ (x : ℕ) (rows head : Siblings) (left : ℕ) (u : Head rows head) (w :
 
   pub quiet_told : EffectTold x (forest rows) no_effect
   quiet_told = effect_told x (forest rows) no_effect (sym quiet_first)
+
+pub ruleset quiet_answers = (quiet_first, quiet_told)
